@@ -1,6 +1,6 @@
 # make example        builds the program, scores two dumps of examples/pads, merges their databases, shows the report and
 #                     writes the tracefile, scores and reports examples/alu, and scores, merges and reports the two dumps
-#                     of examples/uart
+#                     of examples/uart, and that of examples/door with its state machine and the late habit
 # make try            shows the example with a program that is not proved, in a minute or two
 # make test           the gate: proves every crate, tries the wrong bodies, runs the tests, the program and the example cases
 # make cases          builds the program and runs the example cases of the stage that is reached; so does make rows
@@ -10,12 +10,13 @@
 
 PREFIX ?= /usr/local
 PROGRAM = crates/covered/out/covered
-STAGE = clocked
+STAGE = machines-late
 # parts of later stages that are already there: dumps, bindings, merge and report
 AHEAD = merge-report pieces
 PADS = examples/pads
 ALU = examples/alu
 UART = examples/uart
+DOOR = examples/door
 DOCUMENTS = USER_GUIDE.md LANGUAGE.md FORMATS.md
 
 .PHONY: build example try test cases rows built-cases wrong-bodies install
@@ -35,6 +36,9 @@ example: build
 	  && $$COVERED score -t uart_tx -i tb.dut -v uart_tx.v -vcd sent.vcd -o sent.db \
 	  && $$COVERED score -t uart_tx -i tb.dut -v uart_tx.v -vcd aborted.vcd -o aborted.db \
 	  && $$COVERED merge -o all.db sent.db aborted.db && $$COVERED report -d v all.db
+	cd $(DOOR) && COVERED=../../$(PROGRAM) \
+	  && $$COVERED score -t door -i tb.dut -v door.v -vcd door.vcd -o late.db -late -states door=state:CLOSED,OPENING,OPEN,CLOSING \
+	  && $$COVERED report -d v late.db
 
 try:
 	@echo 'covered: this program is compiled without any proof; `make example` proves it first'

@@ -20,7 +20,6 @@ use word_log::WordLog;
 use write_log::{Log, Queue, Signals, log_room, queue_room};
 
 /// What is known of the signals and memories of a design, between the runs of bodies and while one runs.
-#[derive(Drop)]
 pub struct Store<'a> {
     /// The design, whose declared ranges are read.
     pub(crate) design: &'a Design,
@@ -44,6 +43,21 @@ pub struct Store<'a> {
     ghost counted: { IsCounted (design_view design.now) log.room updates.room },
     ghost taken: { are_taken (design_view design.now) updates.items ≡ true },
     ghost veiled: { FitsVeils (length design.now.signals) design.now.memories veils },
+}
+
+// Written out so that a crate which lets one go does not prove again how each of its parts is let go.
+impl Drop for Store<'_> {
+    fn drop(self) {
+        let Store {
+            design: _,
+            signals: _,
+            memories: _,
+            log: _,
+            words: _,
+            updates: _,
+            veils: _,
+        } = self;
+    }
 }
 
 impl<'a> Store<'a> {

@@ -7,7 +7,8 @@
 //! | `time 15` | the time of the next runs; before the first such line it is 5 |
 //! | `points l1 c1:0?a l2?a@15 r0 w3` | the points that are hit or left open so far, in the order of points; a doubt has its time where that is not 5 |
 
-ghost use Rattle.std.specs.Prelude.{◌≤◌, length};
+ghost use Rattle.std.specs.Prelude.{◌≡◌, ◌≤◌, IfOk, length};
+ghost use Rattle.cover_marks.specs.Marks.{AreMarksOf};
 ghost use Rattle.cover_points.specs.Listed.{points_of};
 ghost use Rattle.cover_points.specs.Visits.{AreApart, AreOnce, ArePlaced};
 ghost use Rattle.design_model.specs.Lawful.{IsLawfulDesign};
@@ -17,11 +18,12 @@ use crate::script::{TIME, run_line};
 use crate::verdicts::shown;
 use block_runs::BlockNotes;
 use body_trials::{Given, Mark, given_of};
+use cov_host::NoMemory;
 use cover_marks::Marks;
 use cover_points::{MOST_POINTS, Points, list};
 use design_model::Design;
 use lent_designs::{DesignUser, lend_design};
-use run_marks::MarkNotes;
+use run_marks::{MarkNotes, WrittenWords};
 use state_machines::States;
 use std::alloc::Global;
 
@@ -181,18 +183,32 @@ fn fault_of(alloc: Global, design: &Design, points: &Points, text: &str) -> usiz
     requires placed { ArePlaced points.now }
     requires few { length (points_of points.now) ≤ MOST_POINTS }
 {
-    match Marks::new(alloc, points) {
-        Ok(marks) => {
-            let process = 0;
-            let mut notes = MarkNotes {
-                marks,
-                points,
-                process,
-            };
-            first_fault(alloc, design, text, &mut notes)
-        }
+    match new_notes(alloc, design, points) {
+        Ok(mut notes) => first_fault(alloc, design, text, &mut notes),
         Err(_) => 1,
     }
+}
+
+/// Notes of these points, of which none is marked, and of no memory whose words are followed.
+fn new_notes<'a>(
+    alloc: Global,
+    design: &Design,
+    points: &'a Points,
+) -> Result<MarkNotes<'a>, NoMemory>
+    requires lawful { IsLawfulDesign (design_view design.now) }
+    requires placed { ArePlaced points.now }
+    requires few { length (points_of points.now) ≤ MOST_POINTS }
+    ensures { IfOk result (λ notes. notes.points.now ≡ points.now × AreMarksOf points.now notes.marks) }
+{
+    let marks = Marks::new(alloc, points)?;
+    let followed = vec![in alloc; false; design.memories.len()]?;
+    let written = WrittenWords::new(alloc, design, followed.as_slice())?;
+    Ok(MarkNotes {
+        marks,
+        points,
+        process: 0,
+        written,
+    })
 }
 
 /// The same, where the runs note their marks here.

@@ -21,6 +21,7 @@ ghost use Rattle.clocked_marks.specs.AtClocked.{AtClocked, CanRunAll};
 use chosen_runs::{Habit, Piece, Store, Wakes, run_chosen};
 use code_values::CodeValues;
 use design_model::Design;
+use noted_words::unnoted_law;
 use run_marks::{MarkNotes, notes_law};
 use std::sync::ledger::Ledger;
 use step_counts::Steps;
@@ -67,15 +68,18 @@ pub fn mark_clean<L: Ledger>(
     ensures design { design_view store.new.design.now ≡ design_view design.now }
     ensures ready { (d : TheDesign) (ps : List ℕ) → CanRunAll d (process ∷ ps) store.old → CanRunAll d ps store.new }
     ensures points { notes.new.points.now ≡ notes.old.points.now }
+    ensures first { notes.new.written.first ≡ notes.old.written.first }
+    ensures ranges { notes.new.written.ranges ≡ notes.old.written.ranges }
     ensures marks { AreMarksOf notes.new.points.now notes.new.marks }
     ensures step { (st : Closing) (w : Working) (ps : List ℕ) → AreApart notes.old.points.now → AreOnce notes.old.points.now
         → IsRunBy st time → IsDumpedStep st codes.now values.now → IsEarlyIn st (state_of sets.old) habit process trigger
-        → AtClocked st notes.old.points.now w (process ∷ ps) store.old notes.old.marks
-        → AtClocked st notes.old.points.now (run_clean st (Some trigger) process w) ps store.new notes.new.marks }
+        → AtClocked st notes.old.points.now w (process ∷ ps) store.old notes.old
+        → AtClocked st notes.old.points.now (run_clean st (Some trigger) process w) ps store.new notes.new }
     ensures pieces { pieces.new ≡ pieces.old }
     ensures steps { steps.new ≡ steps.old + 1 }
 {
     notes_law();
+    unnoted_law();
     notes.process = process;
     run_chosen(
         sets, habit, process, trigger, shared, store, design, written, codes, values, time, pieces,

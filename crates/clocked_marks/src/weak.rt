@@ -12,6 +12,7 @@ ghost use Rattle.clocked_marks.specs.AtClocked.{AtClocked, CanRunAll};
 
 use chosen_runs::{Piece, Store, run_weak};
 use design_model::Design;
+use noted_words::unnoted_law;
 use run_marks::{MarkNotes, notes_law};
 use std::sync::ledger::Ledger;
 use step_counts::Steps;
@@ -41,14 +42,17 @@ pub fn mark_weak<L: Ledger>(
     ensures design { design_view store.new.design.now ≡ design_view design.now }
     ensures ready { (d : TheDesign) (ps : List ℕ) → CanRunAll d (process ∷ ps) store.old → CanRunAll d ps store.new }
     ensures points { notes.new.points.now ≡ notes.old.points.now }
+    ensures first { notes.new.written.first ≡ notes.old.written.first }
+    ensures ranges { notes.new.written.ranges ≡ notes.old.written.ranges }
     ensures marks { AreMarksOf notes.new.points.now notes.new.marks }
     ensures step { (st : Closing) (w : Working) (ps : List ℕ) → AreApart notes.old.points.now → AreOnce notes.old.points.now → IsRunBy st time
-        → AtClocked st notes.old.points.now w (process ∷ ps) store.old notes.old.marks
-        → AtClocked st notes.old.points.now (weak_run st None (Some waker) process w) ps store.new notes.new.marks }
+        → AtClocked st notes.old.points.now w (process ∷ ps) store.old notes.old
+        → AtClocked st notes.old.points.now (weak_run st None (Some waker) process w) ps store.new notes.new }
     ensures pieces { pieces.new ≡ pieces.old }
     ensures steps { steps.new ≡ steps.old + 1 }
 {
     notes_law();
+    unnoted_law();
     notes.process = process;
     run_weak(
         store,

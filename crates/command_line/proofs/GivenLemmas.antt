@@ -1,21 +1,72 @@
 -- Options with their values, and one more of them.
-use Rattle.std.proofs.Common.{◌≡◌, ◌∙◌, ◌+◌, ◌≤◌, ◌==◌, ◌||◌, ℕ, suc, Bool, true, false, cond, sym, ap, refl, arith, List, [], ◌∷◌, ◌++◌, length, length-append, append-nil, Option, Some, None, IsTrue, is_none, subst}
+use Rattle.std.proofs.Common.{◌≡◌, ◌∙◌, ◌+◌, ◌≤◌, ◌==◌, ◌||◌, ℕ, suc, Bool, true, false, cond, sym, ap, refl, arith, List, [], ◌∷◌, ◌++◌, length, length-append, append_assoc, append-nil, Option, Some, None, IsTrue, is_none, subst}
 use Rattle.std.specs.List.{AllByRecursion, last_or}
-use Rattle.std.proofs.lemmas.Bool.{eqb-true, ne_eqb}
+use Rattle.std.proofs.lemmas.Bool.{eqb-true, false≢true, ne_eqb}
 use Rattle.command_line.specs.declared.score_option.ScoreOption.{ScoreOption}
-use Rattle.command_line.specs.CommandWords.{GivenOption, spelled, values_in, is_absent, may_follow, at_most_one, AreGiven}
+use Rattle.command_line.specs.declared.score_option.ScoreOption.TheVariants.{Top, Instance, Source, Define, Folder, Dump, Output, States, Late}
+use Rattle.command_line.specs.CommandWords.{GivenOption, spelled, value_words, values_in, is_absent, may_follow, at_most_one, AreGiven}
 use Rattle.command_line.specs.OptionValues.{values_among}
-use Rattle.command_line.specs.ScoreOption.{option_text, is_same, accepts, repeats}
-use Rattle.command_line.proofs.OptionLemmas.{same_option, is_same-self}
+use Rattle.command_line.specs.ScoreOption.{option_text, is_same, accepts, repeats, takes_value}
+use Rattle.command_line.proofs.OptionLemmas.{same_option, is_same-self, the_flag}
 
 pub spelled-append : (given more : List GivenOption) → spelled (given ++ more) ≡ spelled given ++ spelled more
 spelled-append [] more = refl
-spelled-append (x ∷ given) more = ap (λ words. option_text x.option ∷ x.value ∷ words) (spelled-append given more)
+spelled-append (x ∷ given) more =
+    ap (λ words. option_text x.option ∷ words) (ap (λ words. value_words x.option x.value ++ words) (spelled-append given more) ∙ sym (append_assoc (value_words x.option x.value) (spelled given) (spelled more)))
 
--- the values of an option among the words of options are those that it was given
-pub values_among-spelled : (given : List GivenOption) (option : ScoreOption) → values_among option (spelled given) ≡ values_in given option
-values_among-spelled [] option = refl
-values_among-spelled (x ∷ given) option = ap (λ values. cond (is_same x.option option) (x.value ∷ values) values) (values_among-spelled given option)
+-- the words of one more option
+pub spelled-push : (given : List GivenOption) (x : GivenOption) (all left : List (List ℕ)) → all ≡ option_text x.option ∷ value_words x.option x.value ++ left → spelled given ++ all ≡ spelled (given ++ x ∷ []) ++ left
+spelled-push given x all left is =
+    ap (λ rest. spelled given ++ rest) is
+    ∙ sym (append_assoc (spelled given) (option_text x.option ∷ value_words x.option x.value) left)
+    ∙ ap (λ words. (spelled given ++ option_text x.option ∷ words) ++ left) (sym (append-nil (value_words x.option x.value)))
+    ∙ ap (λ words. words ++ left) (sym (spelled-append given (x ∷ [])))
+
+-- a flag is left out among words
+among-flag : (option : ScoreOption) (rest : List (List ℕ)) → values_among option (option_text Late ∷ rest) ≡ values_among option rest
+among-flag option [] = refl
+among-flag option (value ∷ rest) = refl
+
+-- and of another option its value is taken where it is of this one
+among-value : (option other : ScoreOption) (value : List ℕ) (rest : List (List ℕ)) → takes_value other ≡ true → values_among option (option_text other ∷ value ∷ rest) ≡ cond (is_same other option) (value ∷ values_among option rest) (values_among option rest)
+among-value option Top value rest takes = refl
+among-value option Instance value rest takes = refl
+among-value option Source value rest takes = refl
+among-value option Define value rest takes = refl
+among-value option Folder value rest takes = refl
+among-value option Dump value rest takes = refl
+among-value option Output value rest takes = refl
+among-value option States value rest takes = refl
+among-value option Late value rest takes = absurd (false≢true takes)
+
+-- an option that takes a value is no flag
+no_flag : (option : ScoreOption) → takes_value option ≡ true → is_same Late option ≡ false
+no_flag Late takes = absurd (false≢true takes)
+no_flag Top takes = refl
+no_flag Instance takes = refl
+no_flag Source takes = refl
+no_flag Define takes = refl
+no_flag Folder takes = refl
+no_flag Dump takes = refl
+no_flag Output takes = refl
+no_flag States takes = refl
+
+-- the values of an option that takes one, among the words of options, are those that it was given
+pub values_among-spelled : (given : List GivenOption) (option : ScoreOption) → takes_value option ≡ true → values_among option (spelled given) ≡ values_in given option
+values_among-spelled [] option takes = refl
+values_among-spelled (x ∷ given) option takes = go (takes_value x.option) refl (values_among-spelled given option takes)
+  where
+    go : (b : Bool) → takes_value x.option ≡ b → values_among option (spelled given) ≡ values_in given option → values_among option (option_text x.option ∷ value_words x.option x.value ++ spelled given) ≡ cond (is_same x.option option) (x.value ∷ values_in given option) (values_in given option)
+    go true e further =
+        ap (λ b. values_among option (option_text x.option ∷ cond b (x.value ∷ []) [] ++ spelled given)) e
+        ∙ among-value option x.option x.value (spelled given) e
+        ∙ ap (λ values. cond (is_same x.option option) (x.value ∷ values) values) further
+    go false e further =
+        ap (λ b. values_among option (option_text x.option ∷ cond b (x.value ∷ []) [] ++ spelled given)) e
+        ∙ ap (λ o. values_among option (option_text o ∷ spelled given)) (the_flag x.option e)
+        ∙ among-flag option (spelled given)
+        ∙ further
+        ∙ ap (λ b. cond b (x.value ∷ values_in given option) (values_in given option)) (sym (ap (λ o. is_same o option) (the_flag x.option e) ∙ no_flag option takes))
 
 values_in-append : (given more : List GivenOption) (option : ScoreOption) → values_in (given ++ more) option ≡ values_in given option ++ values_in more option
 values_in-append [] more option = refl

@@ -11,3 +11,4 @@ pub mod DatabaseOutcome
 pub mod Outcome
 pub mod OneCommand
 pub mod LcovReading
+pub mod Names

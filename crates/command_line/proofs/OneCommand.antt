@@ -1,29 +1,38 @@
 -- Words are one command at most.
-use Rattle.std.proofs.Common.{◌≡◌, ◌∙◌, ℕ, Bool, List, Option, Some, None, refl, sym, ap}
+use Rattle.std.proofs.Common.{◌≡◌, ◌∙◌, ℕ, Bool, true, false, List, Option, Some, None, refl, sym, ap}
 use Rattle.std.specs.List.{last_or}
 use Rattle.command_line.specs.declared.report_level.ReportLevel.{ReportLevel}
 use Rattle.command_line.specs.declared.report_metrics.ReportMetrics.{ReportMetrics}
 use Rattle.command_line.specs.Command.{AreWordsOf, CommandValues, score, merge, report, lcov}
-use Rattle.command_line.specs.CommandWords.{at_most_one, AreValues, GivenOption, IsScore, ScoreValues}
+use Rattle.command_line.specs.CommandWords.{at_most_one, flag_values, AreValues, GivenOption, IsScore, ScoreValues}
 use Rattle.command_line.specs.Define.{Define}
+use Rattle.command_line.specs.MachineWords.{MachineNames}
 use Rattle.command_line.specs.DatabaseWords.{AreMergeValues, AreReportValues, IsMerge, IsReport, Item, MergeValues, ReportValues}
 use Rattle.command_line.specs.LcovWords.{AreLcovValues, IsLcov, LcovValues}
 use Rattle.command_line.proofs.Outcome.{outcome_of-score, outcome_of-merge, outcome_of-report, outcome_of-lcov}
 
 -- the values as one
-all_values : (top instance : List ℕ) (sources : List (List ℕ)) (defines : List Define) (folder : Option (List ℕ)) (dump output : List ℕ) → ScoreValues
-all_values top instance sources defines folder dump output = record { top = top; instance = instance; sources = sources; defines = defines; folder = folder; dump = dump; output = output }
+all_values : (top instance : List ℕ) (sources : List (List ℕ)) (defines : List Define) (folder : Option (List ℕ)) (dump output : List ℕ) (machines : List MachineNames) (late : Bool) → ScoreValues
+all_values top instance sources defines folder dump output machines late =
+    record { top = top; instance = instance; sources = sources; defines = defines; folder = folder; dump = dump; output = output; machines = machines; late = late }
 
 last_of_one : (value : Option (List ℕ)) → last_or None (at_most_one value) ≡ value
 last_of_one None = refl
 last_of_one (Some value) = refl
+
+one_flag : (a b : Bool) → flag_values a ≡ flag_values b → a ≡ b
+one_flag true true e = refl
+one_flag true false e = cc
+one_flag false true e = cc
+one_flag false false e = refl
 
 -- options have one value each
 one_values : (given : List GivenOption) (a b : ScoreValues) → AreValues given a → AreValues given b → a ≡ b
 unfolding all_values
 one_values given a b are_a are_b =
     let folder : a.folder ≡ b.folder = sym (last_of_one a.folder) ∙ ap (last_or None) (sym are_a.folder ∙ are_b.folder) ∙ last_of_one b.folder in
-    let e : all_values a.top a.instance a.sources a.defines a.folder a.dump a.output ≡ all_values b.top b.instance b.sources b.defines b.folder b.dump b.output = cc in e
+    let late : a.late ≡ b.late = one_flag a.late b.late (sym are_a.late ∙ are_b.late) in
+    let e : all_values a.top a.instance a.sources a.defines a.folder a.dump a.output a.machines a.late ≡ all_values b.top b.instance b.sources b.defines b.folder b.dump b.output b.machines b.late = cc in e
 
 pub one_command : (words : List (List ℕ)) (a b : ScoreValues) → IsScore words a → IsScore words b → a ≡ b
 one_command words a b score_a score_b =

@@ -1,18 +1,20 @@
 -- What was read of a `score` command so far, and what one more word tells.
-use Rattle.std.proofs.Common.{◌≡◌, ◌∙◌, ◌||◌, ℕ, false, true, cond, sym, ap, refl, subst, List, [], ◌∷◌, ◌++◌, append_assoc, append-nil, drop, map, Some, None, arith, is_none, is_some, codes}
-use Rattle.std.specs.List.{last_or}
+use Rattle.std.proofs.Common.{◌≡◌, ◌∙◌, ◌||◌, ℕ, Bool, false, true, cond, sym, ap, refl, subst, List, [], ◌∷◌, ◌++◌, append-nil, drop, map, Option, Some, None, IsTrue, arith, is_none, is_some, codes}
+use Rattle.std.specs.List.{AllByRecursion, last_or}
 use Rattle.std.proofs.lemmas.Bool.{false≢true}
 use Rattle.command_line.specs.declared.score_option.ScoreOption.{ScoreOption}
-use Rattle.command_line.specs.declared.score_option.ScoreOption.TheVariants.{Top, Instance, Source, Define, Folder, Dump, Output}
+use Rattle.command_line.specs.declared.score_option.ScoreOption.TheVariants.{Top, Instance, Source, Define, Folder, Dump, Output, States, Late}
 use Rattle.command_line.specs.declared.given_values.GivenValues.{GivenValues}
 use Rattle.command_line.specs.declared.score_words.ScoreWords.{ScoreWords}
-use Rattle.command_line.specs.CommandWords.{GivenOption, spelled, values_in, is_absent, may_follow, at_most_one, score_values, IsScore, IsScoreUpTo}
+use Rattle.command_line.specs.CommandWords.{GivenOption, spelled, value_words, values_in, is_absent, may_follow, at_most_one, flag_values, score_values, IsScore, IsScoreUpTo}
 use Rattle.command_line.specs.Define.{define_of}
+use Rattle.command_line.specs.MachineWords.{machine_of}
 use Rattle.command_line.specs.GivenValues.{all_words, has_room, value_of, GivesScore}
 use Rattle.command_line.specs.OptionValues.{sources_of, values_among}
-use Rattle.command_line.specs.ScoreOption.{option_text, is_same, accepts, repeats}
-use Rattle.command_line.specs.UsageFault.{first_missing, BeginsWithBadValue, IsMissing, MayFollow}
-use Rattle.command_line.proofs.GivenLemmas.{absent_last, few_values, last_value-push, spelled-append, values_among-spelled, AreGiven-push}
+use Rattle.command_line.specs.ScoreOption.{option_text, is_same, accepts, repeats, takes_value}
+use Rattle.command_line.specs.UsageFault.{first_missing, BeginsWithBadValue, IsMissing, NeedsOne}
+use Rattle.command_line.proofs.GivenLemmas.{absent_last, few_values, last_value-push, spelled-push, values_accepted, values_among-spelled, AreGiven-push}
+use Rattle.command_line.proofs.OptionLemmas.{flag_accepted, flag_value}
 
 -- the words were read up to what is left, and these are the last values of the options in them
 pub record HasRead (words left : List (List ℕ)) (values : GivenValues) : Type 0 where
@@ -50,12 +52,16 @@ module _ (words all rest : List (List ℕ)) (values : GivenValues) (option : Sco
   may = may_follow_read words all values read option ∙ room
 
   -- it stands last
-  pub needs_value : rest ≡ [] → (all ≡ word ∷ []) × MayFollow read.given word
-  needs_value end = (first ∙ ap (λ rest. word ∷ rest) end, (option, is_word, may))
+  pub needs_value : takes_value option ≡ true → rest ≡ [] → (all ≡ word ∷ []) × NeedsOne read.given word
+  needs_value takes end = (first ∙ ap (λ rest. word ∷ rest) end, (option, is_word, may, takes))
 
   -- its value is not of its form
-  pub has_bad_value : (left : List (List ℕ)) (value : List ℕ) → rest ≡ value ∷ left → accepts option value ≡ false → BeginsWithBadValue read.given value all
-  has_bad_value left value second form = (option, left, rw (first, second, is_word), may, form)
+  pub has_bad_value : (left : List (List ℕ)) (value : List ℕ) → rest ≡ value_words option value ++ left → (takes_value option ≡ false → value ≡ []) → accepts option value ≡ false → BeginsWithBadValue read.given value all
+  has_bad_value left value second empty form = go (takes_value option) refl
+    where
+      go : (b : Bool) → takes_value option ≡ b → BeginsWithBadValue read.given value all
+      go true e = (option, left, first ∙ ap (λ r. word ∷ r) (second ∙ ap (λ b. cond b (value ∷ []) [] ++ left) e) ∙ ap (λ u. u ∷ value ∷ left) is_word, may, e, form)
+      go false e = absurd (false≢true (sym form ∙ ap (accepts option) (empty e) ∙ flag_accepted option e))
 
 -- ---- one more option
 
@@ -63,7 +69,7 @@ module _ (words all rest : List (List ℕ)) (values : GivenValues) (option : Sco
 pub HasRead-more : (words all rest left : List (List ℕ)) (before after : GivenValues) (option : ScoreOption) (word value : List ℕ)
     → HasRead words all before
     → all ≡ word ∷ rest
-    → rest ≡ value ∷ left
+    → rest ≡ value_words option value ++ left
     → word ≡ option_text option
     → has_room before option ≡ true
     → accepts option value ≡ true
@@ -72,7 +78,7 @@ pub HasRead-more : (words all rest left : List (List ℕ)) (before after : Given
     → HasRead words left after
 HasRead-more words all rest left before after option word value read first second is_word room form kept set =
     let x : GivenOption = record { option = option; value = value } in
-    let regrouped : spelled read.given ++ all ≡ spelled (read.given ++ x ∷ []) ++ left = rw (first, second, is_word, spelled-append read.given (x ∷ []), append_assoc) in
+    let regrouped = spelled-push read.given x all left (first ∙ ap (λ r. word ∷ r) second ∙ ap (λ u. u ∷ value_words option value ++ left) is_word) in
     record {
       given = read.given ++ x ∷ [];
       up_to = record {
@@ -89,11 +95,19 @@ module _ (words left : List (List ℕ)) (values : GivenValues) (read : HasRead w
   up_to_end : IsScoreUpTo words read.given []
   up_to_end = subst (IsScoreUpTo words read.given) end read.up_to
 
-  values_read : (option : ScoreOption) → values_among option (all_words values) ≡ values_in read.given option
-  values_read option = ap (λ all. values_among option (drop 1 all)) (sym read.all ∙ up_to_end.spells) ∙ ap (values_among option) (append-nil (spelled read.given)) ∙ values_among-spelled read.given option
+  values_read : (option : ScoreOption) → takes_value option ≡ true → values_among option (all_words values) ≡ values_in read.given option
+  values_read option takes = ap (λ all. values_among option (drop 1 all)) (sym read.all ∙ up_to_end.spells) ∙ ap (values_among option) (append-nil (spelled read.given)) ∙ values_among-spelled read.given option takes
 
   one_read : (option : ScoreOption) → repeats option ≡ false → values_in read.given option ≡ at_most_one (value_of values option)
   one_read option single = few_values (values_in read.given option) (read.up_to.are_given.once option single) ∙ ap at_most_one (read.same option)
+
+  -- what was given for the habit is the empty value, if anything
+  late_read : (o : Option (List ℕ)) → value_of values Late ≡ o → values_in read.given Late ≡ flag_values (is_some o)
+  late_read None e = one_read Late refl ∙ ap at_most_one e
+  late_read (Some value) e =
+      let one : values_in read.given Late ≡ value ∷ [] = one_read Late refl ∙ ap at_most_one e in
+      let form : accepts Late value ≡ true = (subst (AllByRecursion (λ v. IsTrue (accepts Late v))) one (values_accepted read.given Late read.up_to.are_given.forms)).0 in
+      one ∙ ap (λ v. v ∷ []) (flag_value Late value refl form)
 
   -- the first option that is missing is told
   pub missing_stands : (option : ScoreOption) (word : List ℕ) → first_missing (λ needed. is_none (value_of values needed)) ≡ Some option → word ≡ option_text option → IsMissing read.given word
@@ -102,7 +116,7 @@ module _ (words left : List (List ℕ)) (values : GivenValues) (read : HasRead w
   -- what was read is a command, where no value is missing
   pub score_stands : (score : ScoreWords) → GivesScore values score → IsScore words (score_values score)
   score_stands score gives =
-      let sources : values_in read.given Source ≡ sources_of score.sources = sym (values_read Source) ∙ sym gives.sources in
+      let sources : values_in read.given Source ≡ sources_of score.sources = sym (values_read Source refl) ∙ sym gives.sources in
       let none = λ (e : sources_of score.sources ≡ []). sym (read.same Source) ∙ ap (last_or None) (sources ∙ e) in (
         read.given,
         up_to_end,
@@ -111,9 +125,11 @@ module _ (words left : List (List ℕ)) (values : GivenValues) (read : HasRead w
           instance = one_read Instance refl ∙ ap at_most_one gives.instance;
           sources = sources;
           some = λ e. false≢true (sym (ap is_some (none e)) ∙ gives.some);
-          defines = ap (map define_of) (sym (values_read Define)) ∙ sym gives.defines;
+          defines = ap (map define_of) (sym (values_read Define refl)) ∙ sym gives.defines;
           folder = one_read Folder refl ∙ ap at_most_one (sym gives.folder);
           dump = one_read Dump refl ∙ ap at_most_one gives.dump;
           output = one_read Output refl ∙ ap at_most_one gives.output;
+          machines = ap (map machine_of) (sym (values_read States refl)) ∙ sym gives.machines;
+          late = late_read (value_of values Late) refl ∙ ap flag_values (sym gives.late);
         },
       )

@@ -1,5 +1,5 @@
 -- The words of the command `score`.
-use Rattle.std.specs.Prelude.{◌≡◌, ◌≢◌, ◌==◌, ◌≤◌, ℕ, Bool, false, ◌||◌, if◌then◌else◌, IsTrue, IfSome, List, [], ◌∷◌, ◌++◌, length, map, Option, Some, None, codes}
+use Rattle.std.specs.Prelude.{◌≡◌, ◌≢◌, ◌==◌, ◌≤◌, ℕ, Bool, true, false, ◌||◌, if◌then◌else◌, IsTrue, IfSome, List, [], ◌∷◌, ◌++◌, length, map, Option, Some, None, codes}
 use Rattle.std.specs.List.{All, AllByRecursion}
 use Rattle.std.specs.Option.{option_copied}
 use Rattle.cov_host.specs.Identifier.{is_identifier}
@@ -7,8 +7,9 @@ use Rattle.command_line.specs.declared.score_option.ScoreOption.{ScoreOption}
 use Rattle.command_line.specs.declared.score_option.ScoreOption.TheVariants as option
 use Rattle.command_line.specs.declared.score_words.ScoreWords.{ScoreWords}
 use Rattle.command_line.specs.Define.{Define, define_of}
-use Rattle.command_line.specs.OptionValues.{defines_of, sources_of}
-use Rattle.command_line.specs.ScoreOption.{option_text, is_same, accepts, repeats}
+use Rattle.command_line.specs.MachineWords.{MachineNames, machine_of}
+use Rattle.command_line.specs.OptionValues.{defines_of, machines_of, sources_of}
+use Rattle.command_line.specs.ScoreOption.{option_text, is_same, accepts, repeats, takes_value}
 use Rattle.command_line.specs.ValueForm.{is_file_name, is_instance_path}
 
 -- an option with its value
@@ -16,10 +17,14 @@ pub record GivenOption : Type 0 where
   pub option : ScoreOption
   pub value : List ℕ
 
+-- the value as words: none where the option takes none
+abbrev pub value_words : ScoreOption → List ℕ → List (List ℕ)
+value_words option value = if takes_value option then value ∷ [] else []
+
 -- options with their values, as words
 abbrev pub spelled : List GivenOption → List (List ℕ)
 spelled [] = []
-spelled (given ∷ others) = option_text given.option ∷ given.value ∷ spelled others
+spelled (given ∷ others) = option_text given.option ∷ value_words given.option given.value ++ spelled others
 
 -- the values that an option was given, in order
 abbrev pub values_in : List GivenOption → ScoreOption → List (List ℕ)
@@ -53,13 +58,20 @@ pub record ScoreValues : Type 0 where
   pub folder : Option (List ℕ)
   pub dump : List ℕ
   pub output : List ℕ
+  pub machines : List MachineNames  -- the state machines that are named
+  pub late : Bool  -- whether inputs move late
 
 -- an optional value as a list
 abbrev pub at_most_one : Option (List ℕ) → List (List ℕ)
 at_most_one None = []
 at_most_one (Some value) = value ∷ []
 
--- sources and defines in order, the folder at most once, and each other option once
+-- what was given for an option that takes no value
+abbrev pub flag_values : Bool → List (List ℕ)
+flag_values true = [] ∷ []
+flag_values false = []
+
+-- sources, defines and machines in order, the folder and the habit at most once, and each other option once
 pub record AreValues (given : List GivenOption) (values : ScoreValues) : Type 0 where
   pub top : values_in given option.Top ≡ values.top ∷ []
   pub instance : values_in given option.Instance ≡ values.instance ∷ []
@@ -69,6 +81,14 @@ pub record AreValues (given : List GivenOption) (values : ScoreValues) : Type 0 
   pub folder : values_in given option.Folder ≡ at_most_one values.folder
   pub dump : values_in given option.Dump ≡ values.dump ∷ []
   pub output : values_in given option.Output ≡ values.output ∷ []
+  pub machines : map machine_of (values_in given option.States) ≡ values.machines
+  pub late : values_in given option.Late ≡ flag_values values.late
+
+-- the names of a machine are identifiers
+pub record AreIdentifiers (m : MachineNames) : Type 0 where
+  pub of_module : IsTrue (is_identifier m.of_module)
+  pub variable : IsTrue (is_identifier m.variable)
+  pub names : All (λ name. IsTrue (is_identifier name)) m.names
 
 -- each value has its form, and there is a source
 pub record HaveForms (values : ScoreValues) : Type 0 where
@@ -80,6 +100,7 @@ pub record HaveForms (values : ScoreValues) : Type 0 where
   pub folder : IfSome values.folder (λ name. IsTrue (is_file_name name))
   pub dump : IsTrue (is_file_name values.dump)
   pub output : IsTrue (is_file_name values.output)
+  pub machines : All AreIdentifiers values.machines
 
 -- the words are `score` and options with their values, in any order
 abbrev pub IsScore : List (List ℕ) → ScoreValues → Type 0
@@ -95,4 +116,6 @@ score_values score = record {
   folder = option_copied score.folder;
   dump = score.dump.now;
   output = score.output.now;
+  machines = machines_of score.machines;
+  late = score.late;
 }

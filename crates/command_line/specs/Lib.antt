@@ -1,5 +1,6 @@
 pub mod ValueForm
 pub mod Define
+pub mod MachineWords
 pub mod OptionValues
 pub mod ScoreOption
 pub mod CommandWords

@@ -6,7 +6,7 @@ use Rattle.command_line.specs.declared.usage_fault.UsageFault.{UsageFault}
 use Rattle.command_line.specs.declared.usage_fault.UsageFault.TheVariants.{NoCommand, UnknownCommand, UnknownWord, GivenTwice, NeedsValue, BadValue, Missing}
 use Rattle.command_line.specs.declared.database_command.DatabaseCommand.TheVariants.{Merge, Report, Lcov}
 use Rattle.command_line.specs.DatabaseFault.{HasDatabaseFault}
-use Rattle.command_line.specs.ScoreOption.{required, option_text, accepts}
+use Rattle.command_line.specs.ScoreOption.{required, option_text, accepts, takes_value}
 use Rattle.command_line.specs.CommandWords.{GivenOption, is_absent, may_follow, IsScoreUpTo}
 
 -- the text of the fault
@@ -35,13 +35,14 @@ IsNoOption word = (option : ScoreOption) → word ≢ option_text option
 abbrev pub IsGivenTwice : List GivenOption → List ℕ → Type 0
 IsGivenTwice given word = (option : ScoreOption) × (word ≡ option_text option) × (may_follow given option ≡ false)
 
--- the word is an option that may follow these
-abbrev pub MayFollow : List GivenOption → List ℕ → Type 0
-MayFollow given word = (option : ScoreOption) × (word ≡ option_text option) × IsTrue (may_follow given option)
+-- the word is an option that may follow these and takes a value
+abbrev pub NeedsOne : List GivenOption → List ℕ → Type 0
+NeedsOne given word = (option : ScoreOption) × (word ≡ option_text option) × IsTrue (may_follow given option) × IsTrue (takes_value option)
 
 -- the words are an option that may come next, a value that is not of its form, and any others
 abbrev pub BeginsWithBadValue : List GivenOption → List ℕ → List (List ℕ) → Type 0
-BeginsWithBadValue given value words = (option : ScoreOption) × (rest : List (List ℕ)) × (words ≡ option_text option ∷ value ∷ rest) × IsTrue (may_follow given option) × (accepts option value ≡ false)
+BeginsWithBadValue given value words =
+    (option : ScoreOption) × (rest : List (List ℕ)) × (words ≡ option_text option ∷ value ∷ rest) × IsTrue (may_follow given option) × IsTrue (takes_value option) × (accepts option value ≡ false)
 
 -- the first option that is missing is this word
 abbrev pub IsMissing : List GivenOption → List ℕ → Type 0
@@ -53,7 +54,7 @@ FaultAfter given left NoCommand = ⊥
 FaultAfter given left (UnknownCommand word) = ⊥
 FaultAfter given left (UnknownWord word) = BeginsWith word.now left × IsNoOption word.now
 FaultAfter given left (GivenTwice word) = BeginsWith word.now left × IsGivenTwice given word.now
-FaultAfter given left (NeedsValue word) = (left ≡ word.now ∷ []) × MayFollow given word.now
+FaultAfter given left (NeedsValue word) = (left ≡ word.now ∷ []) × NeedsOne given word.now
 FaultAfter given left (BadValue word) = BeginsWithBadValue given word.now left
 FaultAfter given left (Missing word) = (left ≡ []) × IsMissing given word.now
 

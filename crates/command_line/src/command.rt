@@ -1,6 +1,7 @@
-ghost use Rattle.std.specs.Prelude.{◌∷◌, codes, IfOk, IfErr};
+ghost use Rattle.std.specs.Prelude.{◌≡◌, ◌∷◌, ◌++◌, [], false, codes, IfErr, IfNone, IfOk, IfSome, IsTrue};
 ghost use Rattle.command_line.specs.Command.{IsCommand};
-ghost use Rattle.command_line.specs.CommandWords.{IsScore, score_values};
+ghost use Rattle.command_line.specs.CommandWords.{IsScore, score_values, value_words};
+ghost use Rattle.command_line.specs.ScoreOption.{takes_value};
 ghost use Rattle.command_line.specs.UsageFault.{HasScoreFault, HasUsageFault};
 ghost use Rattle.command_line.specs.WordsLeft.{left_words};
 
@@ -53,7 +54,7 @@ fn read_score<'a>(left: &mut WordsLeft<'a>) -> Result<ScoreWords<'a>, UsageFault
         if !values.has_room(option) {
             return Err(UsageFault::GivenTwice(word));
         }
-        let Some(value) = left.next_word() else {
+        let Some(value) = value_after(option, left) else {
             return Err(UsageFault::NeedsValue(word));
         };
         if !option.accepts(value) {
@@ -64,5 +65,18 @@ fn read_score<'a>(left: &mut WordsLeft<'a>) -> Result<ScoreWords<'a>, UsageFault
     match values.complete() {
         Ok(score) => Ok(score),
         Err(option) => Err(UsageFault::Missing(option.text())),
+    }
+}
+
+/// The value of an option that was read. One that takes no value has the empty one.
+fn value_after<'a>(option: ScoreOption, left: &mut WordsLeft<'a>) -> Option<&'a str>
+    ensures value { IfSome result (λ value. left_words left.old ≡ value_words option value.now ++ left_words left.new) }
+    ensures empty { IfSome result (λ value. takes_value option ≡ false → value.now ≡ []) }
+    ensures none { IfNone result (IsTrue (takes_value option) × (left_words left.old ≡ [])) }
+{
+    if option.takes_value() {
+        left.next_word()
+    } else {
+        Some("")
     }
 }

@@ -7,7 +7,7 @@ ghost use Rattle.command_line.specs.GivenValues.{all_words, has_room, value_of, 
 ghost use Rattle.command_line.specs.WordsLeft.{left_words};
 
 use crate::words_left::WordsLeft;
-use crate::{GivenDefines, ScoreOption, ScoreWords, SourceFiles};
+use crate::{GivenDefines, GivenMachines, ScoreOption, ScoreWords, SourceFiles};
 
 /// The values of the options that were read so far, of one that repeats the last.
 #[derive(Clone, Copy)]
@@ -20,6 +20,8 @@ pub(crate) struct GivenValues<'a> {
     folder: Option<&'a str>,
     dump: Option<&'a str>,
     output: Option<&'a str>,
+    machine: Option<&'a str>,
+    late: Option<&'a str>,
 }
 
 impl<'a> GivenValues<'a> {
@@ -37,6 +39,8 @@ impl<'a> GivenValues<'a> {
             folder: None,
             dump: None,
             output: None,
+            machine: None,
+            late: None,
         }
     }
 
@@ -52,6 +56,8 @@ impl<'a> GivenValues<'a> {
             ScoreOption::Folder => self.folder,
             ScoreOption::Dump => self.dump,
             ScoreOption::Output => self.output,
+            ScoreOption::States => self.machine,
+            ScoreOption::Late => self.late,
         }
     }
 
@@ -88,6 +94,8 @@ impl<'a> GivenValues<'a> {
             folder: self.folder,
             dump,
             output,
+            machines: GivenMachines::new(self.words),
+            late: self.late.is_some(),
         })
     }
 
@@ -104,6 +112,8 @@ impl<'a> GivenValues<'a> {
             ScoreOption::Folder => self.folder = Some(value),
             ScoreOption::Dump => self.dump = Some(value),
             ScoreOption::Output => self.output = Some(value),
+            ScoreOption::States => self.machine = Some(value),
+            ScoreOption::Late => self.late = Some(value),
         }
     }
 }

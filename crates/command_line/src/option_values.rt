@@ -26,6 +26,9 @@ impl<'a> OptionValues<'a> {
         ensures end { IfNone result ((values_left self.old ≡ []) × (values_left self.new ≡ [])) }
     {
         while let Some(word) = self.words.next_word() {
+            if word == ScoreOption::Late.text() {
+                continue;
+            }
             let value = self.words.next_word()?;
             if word == self.option.text() {
                 return Some(value);

@@ -1,9 +1,10 @@
 ghost use Rattle.std.specs.Prelude.{◌≡◌, ◌≢◌, IfSome, IfNone};
-ghost use Rattle.command_line.specs.ScoreOption.{option_text, accepts, repeats};
+ghost use Rattle.command_line.specs.ScoreOption.{option_text, accepts, repeats, takes_value};
 
+use crate::given_machine::is_machine;
 use crate::{GivenDefine, is_file_name, is_instance_path, is_module_name};
 
-/// An option of the command `score`. Its value is the next word, whatever that begins with.
+/// An option of the command `score`. Its value, if it takes one, is the next word, whatever that begins with.
 #[derive(Clone, Copy, Debug, PartialEq, Eq)]
 pub enum ScoreOption {
     /// The name of the top module.
@@ -20,6 +21,10 @@ pub enum ScoreOption {
     Dump,
     /// The file that the coverage is written to.
     Output,
+    /// A variable of a module with the parameters that are its states. It may be repeated.
+    States,
+    /// The inputs move late. It takes no value.
+    Late,
 }
 
 impl ScoreOption {
@@ -36,6 +41,8 @@ impl ScoreOption {
             "-I" => Some(ScoreOption::Folder),
             "-vcd" => Some(ScoreOption::Dump),
             "-o" => Some(ScoreOption::Output),
+            "-states" => Some(ScoreOption::States),
+            "-late" => Some(ScoreOption::Late),
             _ => None,
         }
     }
@@ -52,6 +59,8 @@ impl ScoreOption {
             ScoreOption::Folder => "-I",
             ScoreOption::Dump => "-vcd",
             ScoreOption::Output => "-o",
+            ScoreOption::States => "-states",
+            ScoreOption::Late => "-late",
         }
     }
 
@@ -59,10 +68,20 @@ impl ScoreOption {
     pub fn repeats(self) -> bool
         ensures { result ≡ repeats self }
     {
-        matches!(self, ScoreOption::Source | ScoreOption::Define)
+        matches!(
+            self,
+            ScoreOption::Source | ScoreOption::Define | ScoreOption::States
+        )
     }
 
-    /// Whether the value has the option's form.
+    /// Whether the next word is the option's value.
+    pub fn takes_value(self) -> bool
+        ensures { result ≡ takes_value self }
+    {
+        self != ScoreOption::Late
+    }
+
+    /// Whether the value has the option's form. An option that takes no value has the empty one.
     pub fn accepts(self, value: &str) -> bool
         ensures { result ≡ accepts self value.now }
     {
@@ -73,6 +92,8 @@ impl ScoreOption {
             ScoreOption::Source | ScoreOption::Folder | ScoreOption::Dump | ScoreOption::Output => {
                 is_file_name(value)
             }
+            ScoreOption::States => is_machine(value),
+            ScoreOption::Late => value.is_empty(),
         }
     }
 }

@@ -1,4 +1,4 @@
-use crate::{GivenDefines, SourceFiles};
+use crate::{GivenDefines, GivenMachines, SourceFiles};
 
 /// The values of a `score` command.
 #[derive(Clone, Copy)]
@@ -17,4 +17,8 @@ pub struct ScoreWords<'a> {
     pub dump: &'a str,
     /// The file that the coverage is written to.
     pub output: &'a str,
+    /// The state machines that are named, in the order of the words.
+    pub machines: GivenMachines<'a>,
+    /// Whether the inputs move late.
+    pub late: bool,
 }

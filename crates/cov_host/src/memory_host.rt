@@ -9,11 +9,21 @@ use std::alloc::Global;
 
 /// A host in memory with planned faults, of which all of the outside is known. It refuses the calls that were planned
 /// to fail, absent files, and where memory runs out.
-#[derive(Drop)]
 pub struct MemoryHost {
     sure: SureHost,
     planned: PlannedFaults,
     by_one_byte: bool,
+}
+
+// Written out so that a crate which lets one go does not prove again how each of its parts is let go.
+impl Drop for MemoryHost {
+    fn drop(self) {
+        let MemoryHost {
+            sure: _,
+            planned: _,
+            by_one_byte: _,
+        } = self;
+    }
 }
 
 impl MemoryHost {

@@ -22,7 +22,6 @@ use text_points::{LinePoint, NodePoint};
 pub const MOST_POINTS: usize = 1_048_576;
 
 /// The points of a design, in their order: those of lines, of nodes, of toggles, of state machines and of words.
-#[derive(Drop)]
 pub struct Points {
     /// The line points, in their order.
     pub lines: Vec<LinePoint>,
@@ -36,6 +35,20 @@ pub struct Points {
     pub states: Vec<MachinePoint>,
     /// The points of words, in their order.
     pub words: Vec<IndexPoint>,
+}
+
+// Written out so that a crate which lets one go does not prove again how each of its parts is let go.
+impl Drop for Points {
+    fn drop(self) {
+        let Points {
+            lines: _,
+            nodes: _,
+            toggles: _,
+            machines: _,
+            states: _,
+            words: _,
+        } = self;
+    }
 }
 
 /// The points of a design with these state machines, each once, in their order.

@@ -15,7 +15,6 @@ pub struct Db {
 }
 
 /// An instance of a module.
-#[derive(Drop)]
 pub struct DbInstance {
     /// The names from the top module's down to its own, joined by dots.
     pub path: Name,
@@ -23,11 +22,27 @@ pub struct DbInstance {
     pub module: Name,
 }
 
+// Written out so that a crate which lets one go does not prove again how each of its parts is let go.
+impl Drop for DbInstance {
+    fn drop(self) {
+        let DbInstance { path: _, module: _ } = self;
+    }
+}
+
 /// A point with its verdict.
-#[derive(Drop)]
 pub struct DbPoint {
     /// Which point it is.
     pub address: Address,
     /// How it came out.
     pub verdict: DbVerdict,
+}
+
+// Written out so that a crate which lets one go does not prove again how each of its parts is let go.
+impl Drop for DbPoint {
+    fn drop(self) {
+        let DbPoint {
+            address: _,
+            verdict: _,
+        } = self;
+    }
 }

@@ -20,9 +20,12 @@ use Rattle.covered_cli.specs.Databases.{database_status}
 use Rattle.covered_cli.specs.Fault.{IsDatabaseFault, Stands, StandsIn, StandsInDatabases, StandsInWork, output_of, status_of}
 use Rattle.source_design.specs.declared.fault.SourceFault.{SourceFault}
 use Rattle.source_design.specs.declared.fault.SourceFault.TheVariants as source_fault
+use Rattle.covered_cli.specs.PointsMessage.{points_status}
 use Rattle.covered_cli.specs.SourceMessage.{source_status}
+use Rattle.design_points.specs.cover_points.declared.fault.PointFault.{PointFault}
+use Rattle.design_points.specs.cover_points.declared.fault.PointFault.TheVariants as point_fault
 use Rattle.covered_cli.specs.declared.fault.Fault.{Fault}
-use Rattle.covered_cli.specs.declared.fault.Fault.TheVariants.{Usage, Source, TooManyPoints, Dump, Contradiction, Files as FilesFault, Memory, Databases}
+use Rattle.covered_cli.specs.declared.fault.Fault.TheVariants.{Usage, Source, Points as PointsFault, Dump, Contradiction, Files as FilesFault, Memory, Databases}
 use Rattle.covered_cli.specs.declared.status.Status.TheVariants as status
 use Rattle.whole_files.proofs.EffectLemmas.{Told-map}
 
@@ -38,7 +41,7 @@ IfErr-map (Err fault) step holds = step fault holds
 stands_as_score : (words : List (List ℕ)) (values : ScoreValues) (before after : Outside) → IsScore words values → (fault : Fault) → StandsIn values before after fault → Stands words before after fault
 stands_as_score words values before after is (Usage usage) stands = absurd stands
 stands_as_score words values before after is (Source f) stands = (values, is, stands)
-stands_as_score words values before after is TooManyPoints stands = (values, is, stands)
+stands_as_score words values before after is (PointsFault p) stands = (values, is, stands)
 stands_as_score words values before after is (Dump refusal) stands = (values, is, stands)
 stands_as_score words values before after is (Contradiction found) stands = (values, is, stands)
 stands_as_score words values before after is (FilesFault call file) stands = (values, is, stands)
@@ -48,7 +51,7 @@ stands_as_score words values before after is (Databases f) stands = absurd stand
 stands_as_merge : (words : List (List ℕ)) (values : MergeValues) (before after : Outside) → IsMerge words values → (fault : Fault) → IsDatabaseFault (IsMergeFault values before after) fault → Stands words before after fault
 stands_as_merge words values before after is (Usage usage) stands = absurd stands
 stands_as_merge words values before after is (Source f) stands = absurd stands
-stands_as_merge words values before after is TooManyPoints stands = absurd stands
+stands_as_merge words values before after is (PointsFault p) stands = absurd stands
 stands_as_merge words values before after is (Dump refusal) stands = absurd stands
 stands_as_merge words values before after is (Contradiction found) stands = absurd stands
 stands_as_merge words values before after is (FilesFault call file) stands = absurd stands
@@ -58,7 +61,7 @@ stands_as_merge words values before after is (Databases f) stands = inl (values,
 stands_as_report : (words : List (List ℕ)) (values : ReportValues) (before after : Outside) → IsReport words values → (fault : Fault) → IsDatabaseFault (IsReportFault values before after) fault → Stands words before after fault
 stands_as_report words values before after is (Usage usage) stands = absurd stands
 stands_as_report words values before after is (Source f) stands = absurd stands
-stands_as_report words values before after is TooManyPoints stands = absurd stands
+stands_as_report words values before after is (PointsFault p) stands = absurd stands
 stands_as_report words values before after is (Dump refusal) stands = absurd stands
 stands_as_report words values before after is (Contradiction found) stands = absurd stands
 stands_as_report words values before after is (FilesFault call file) stands = absurd stands
@@ -68,7 +71,7 @@ stands_as_report words values before after is (Databases f) stands = inr (inl (v
 stands_as_lcov : (words : List (List ℕ)) (values : LcovValues) (before after : Outside) → IsLcov words values → (fault : Fault) → IsDatabaseFault (IsLcovFault values before after) fault → Stands words before after fault
 stands_as_lcov words values before after is (Usage usage) stands = absurd stands
 stands_as_lcov words values before after is (Source f) stands = absurd stands
-stands_as_lcov words values before after is TooManyPoints stands = absurd stands
+stands_as_lcov words values before after is (PointsFault p) stands = absurd stands
 stands_as_lcov words values before after is (Dump refusal) stands = absurd stands
 stands_as_lcov words values before after is (Contradiction found) stands = absurd stands
 stands_as_lcov words values before after is (FilesFault call file) stands = absurd stands
@@ -141,25 +144,37 @@ source_no_usage source_fault.NoMemory same = cc
 source_no_usage (source_fault.File call file) same = cc
 source_no_usage (source_fault.Included call path) same = cc
 source_no_usage (source_fault.Refused refusal) same = cc
-source_no_usage source_fault.NotYet same = cc
+
+points_no_usage : (p : PointFault) → points_status p ≡ status.Usage → ⊥
+points_no_usage point_fault.NoMemory same = cc
+points_no_usage (point_fault.NoState name) same = cc
+points_no_usage (point_fault.SameState name) same = cc
+points_no_usage point_fault.TooManyPoints same = cc
+points_no_usage (point_fault.TooManyStates name) same = cc
 
 -- a fault ends with the status of usage exactly where the words are no command
 pub usage_exactly : (words : List (List ℕ)) (before after : Outside) → (fault : Fault) → Stands words before after fault → (status_of fault ≡ status.Usage) ↔ IsNoCommand words
 usage_exactly words before after (Usage usage) stands = (λ same. (usage, stands), λ none. refl)
 usage_exactly words before after (Source f) stands = (λ same. absurd (source_no_usage f same), λ none. absurd (command_or_fault words (score stands.0, stands.1) none))
-usage_exactly words before after TooManyPoints stands = (λ same. cc, λ none. absurd (command_or_fault words (score stands.0, stands.1) none))
+usage_exactly words before after (PointsFault p) stands = (λ same. absurd (points_no_usage p same), λ none. absurd (command_or_fault words (score stands.0, stands.1) none))
 usage_exactly words before after (Dump refusal) stands = (λ same. cc, λ none. absurd (command_or_fault words (score stands.0, stands.1) none))
 usage_exactly words before after (Contradiction found) stands = (λ same. cc, λ none. absurd (command_or_fault words (score stands.0, stands.1) none))
 usage_exactly words before after (FilesFault call file) stands = (λ same. cc, λ none. absurd (command_or_fault words (score stands.0, stands.1) none))
 usage_exactly words before after Memory stands = (λ same. cc, λ none. absurd (command_or_fault words (score stands.0, stands.1) none))
 usage_exactly words before after (Databases f) stands = (λ same. absurd (no_usage f same), λ none. absurd (command_or_fault words (databases_are_command words before after f stands) none))
 
+points_no_contradiction : (p : PointFault) → points_status p ≡ status.Contradiction → ⊥
+points_no_contradiction point_fault.NoMemory same = cc
+points_no_contradiction (point_fault.NoState name) same = cc
+points_no_contradiction (point_fault.SameState name) same = cc
+points_no_contradiction point_fault.TooManyPoints same = cc
+points_no_contradiction (point_fault.TooManyStates name) same = cc
+
 source_no_contradiction : (f : SourceFault) → source_status f ≡ status.Contradiction → ⊥
 source_no_contradiction source_fault.NoMemory same = cc
 source_no_contradiction (source_fault.File call file) same = cc
 source_no_contradiction (source_fault.Included call path) same = cc
 source_no_contradiction (source_fault.Refused refusal) same = cc
-source_no_contradiction source_fault.NotYet same = cc
 
 no_contradiction : (f : CommandFault) → database_status f ≡ status.Contradiction → ⊥
 no_contradiction (database_fault.Files call file) same = cc
@@ -172,7 +187,7 @@ no_contradiction (database_fault.DesignsDiffer file line first other) same = cc
 pub contradiction_cause : (words : List (List ℕ)) (before after : Outside) (fault : Fault) → Stands words before after fault → status_of fault ≡ status.Contradiction → HasContradiction words before
 contradiction_cause words before after (Usage usage) stands same = absurd (cc)
 contradiction_cause words before after (Source f) stands same = absurd (source_no_contradiction f same)
-contradiction_cause words before after TooManyPoints stands same = absurd (cc)
+contradiction_cause words before after (PointsFault p) stands same = absurd (points_no_contradiction p same)
 contradiction_cause words before after (Dump refusal) stands same = absurd (cc)
 contradiction_cause words before after (Contradiction found) stands same = (stands.0, stands.1, found, stands.2)
 contradiction_cause words before after (FilesFault call file) stands same = absurd (cc)

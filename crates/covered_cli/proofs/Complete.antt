@@ -9,10 +9,12 @@ use Rattle.cov_host.specs.Outside.{Files, Outside, IsCounted}
 use Rattle.design_model.specs.Run.{Run}
 use Rattle.design_model.specs.View.{design_view}
 use Rattle.design_model.specs.declared.design.Design.{Design}
-use Rattle.design_points.proofs.Counts.{few_or_many}
-use Rattle.design_points.specs.Counted.{HasManyPoints}
+use Rattle.design_points.proofs.Faults.{no_points_fault}
+use Rattle.design_points.specs.Counted.{HasFewPoints}
+use Rattle.design_points.specs.cover_points.Faults.{IsPointFault}
+use Rattle.design_points.specs.cover_points.declared.fault.PointFault.{PointFault}
+use Rattle.design_points.specs.cover_points.declared.fault.PointFault.TheVariants as point_fault
 use Rattle.dump_score.proofs.BindingFirst.{replay_binds}
-use Rattle.event_machine.specs.Habit.{Free}
 use Rattle.shown_dumps.specs.Bound.{IsBound}
 use Rattle.shown_dumps.specs.Shown.{bound_dump}
 use Rattle.signal_binding.specs.Binding.{IsBindable}
@@ -32,11 +34,14 @@ use Rattle.source_design.specs.declared.fault.SourceFault.{SourceFault}
 use Rattle.source_design.specs.declared.fault.SourceFault.TheVariants as source_fault
 use Rattle.covered_cli.proofs.Causes.{command_or_fault, score_or_databases}
 use Rattle.covered_cli.proofs.GoodDumps.{not_contradicted, not_refused, same_bindable, same_bound, same_shown}
-use Rattle.covered_cli.specs.Complete.{EndsWith, HasBadDump, HasBadSource, HasText, HasUnboundDump, HaveTexts, IsCommandWith, IsGoodScore, IsOfBinding, IsTooLarge, NoFaults, RefusesBinding, RefusesDump, RefusesPoints}
+use Rattle.covered_cli.specs.Complete.{EndsWith, HasBadDump, HasBadSource, HasText, HasUnboundDump, HaveTexts, IsCommandWith, IsGoodScore, IsOfBinding, LacksPoints, NoFaults, RefusesBinding, RefusesDump, RefusesPoints}
 use Rattle.covered_cli.specs.Effects.{WarnsLine}
 use Rattle.covered_cli.specs.Fault.{IsRefused, NamesFile, Stands, line_of, status_of}
+use Rattle.covered_cli.proofs.Designs.{lawful_design}
+use Rattle.covered_cli.specs.PointsMessage.{points_line, points_status}
+use Rattle.covered_cli.specs.ScoreMachines.{habit_in, machines_in}
 use Rattle.covered_cli.specs.ScoreSources.{sources_in}
-use Rattle.covered_cli.specs.Scoring.{HasDesign, HasNoScore, HasSomeDesign, HasTooManyPoints, IsContradictedDump, IsContradictedText, IsDone, IsDoneBy, IsDoneIn, IsDumpRefusal, IsRefusedDump}
+use Rattle.covered_cli.specs.Scoring.{HasDesign, HasNoScore, HasPointsFault, HasSomeDesign, IsContradictedDump, IsContradictedText, IsDone, IsDoneBy, IsDoneIn, IsDumpRefusal, IsRefusedDump}
 use Rattle.covered_cli.specs.SourceMessage.{source_status}
 use Rattle.covered_cli.specs.declared.contradiction.Contradiction.{Contradiction}
 use Rattle.covered_cli.specs.declared.dump_refusal.DumpRefusal.{DumpRefusal}
@@ -99,11 +104,11 @@ module _ (score : ScoreValues) (before : Outside) (design : Design) (text : List
   told : IsSome before.files
   told = is_told before.files score.dump text texts.dump_is
 
-  -- its points are not too many
-  not_too_many : HasTooManyPoints score before → ⊥
-  not_too_many many =
-      let same = one_found score before texts.sources told texts.has_design.gathered design texts.has_design.stands many.sources many.design many.gathered many.stands in
-      few_or_many (design_view design) texts.has_design.few (subst HasManyPoints (sym same) many.many)
+  -- its points are listed, so their fault is want of memory
+  points_listed : (p : PointFault) → HasPointsFault score before p → p ≡ point_fault.NoMemory
+  points_listed p has =
+      let same = one_found score before texts.sources told texts.has_design.gathered design texts.has_design.stands has.sources has.design has.gathered has.stands in
+      no_points_fault (design_view design) (machines_in score) p (lawful_design texts.sources (sources_in score).defines score.top design texts.has_design.stands) texts.has_design.few (subst (λ d. IsPointFault d (machines_in score) p) (sym same) has.is)
 
   -- the dump that a relation finds is the one that is told
   same_text : (other : List ℕ) → IfSome before.files (λ files. files score.dump ≡ Some other) → text ≡ other
@@ -120,10 +125,10 @@ module _ (score : ScoreValues) (before : Outside) (design : Design) (text : List
       r refused.holds
 
   -- where a run shows the dump it is not contradicted
-  dump_shown : (dump : Dump) → IsDump text dump → (run : Run) → IsShownBy (design_view design) Free (bound_dump design dump score.instance) run → (x : Contradiction) → IsContradictedDump score before x → ⊥
+  dump_shown : (dump : Dump) → IsDump text dump → (run : Run) → IsShownBy (design_view design) (habit_in score) (bound_dump design dump score.instance) run → (x : Contradiction) → IsContradictedDump score before x → ⊥
   dump_shown dump is_dump run shown x refuted =
-      not_contradicted refuted.design dump score.instance refuted.text (subst (λ text. IsDump text dump) (same_text refuted.text refuted.is) is_dump) run
-      (same_shown design refuted.design dump score.instance (design_found refuted.sources refuted.design refuted.has_design) run shown) x refuted.holds
+      not_contradicted refuted.design dump score.instance refuted.text (subst (λ text. IsDump text dump) (same_text refuted.text refuted.is) is_dump) (habit_in score) run
+      (same_shown (habit_in score) design refuted.design dump score.instance (design_found refuted.sources refuted.design refuted.has_design) run shown) x refuted.holds
 
   -- where the header is read and binds nothing, the refusal is one of the binding
   module _ (b : Body) (says : SaysBody text b) (unbound : IsBindable design b.vars score.instance → ⊥) where
@@ -144,7 +149,7 @@ module _ (score : ScoreValues) (before : Outside) (design : Design) (text : List
     -- and it is not contradicted
     none_contradicted : (x : Contradiction) → IsContradictedDump score before x → ⊥
     none_contradicted x refuted =
-        let some = (subst (λ t. IsContradictedText refuted.design score.instance t x) (sym (same_text refuted.text refuted.is)) refuted.holds).2 in
+        let some = (subst (λ t. IsContradictedText (habit_in score) refuted.design score.instance t x) (sym (same_text refuted.text refuted.is)) refuted.holds).2 in
         not_bound refuted.sources refuted.design some.0 refuted.has_design some.1 some.2.bindable
 
   -- a design that has no score is not done
@@ -153,18 +158,17 @@ module _ (score : ScoreValues) (before : Outside) (design : Design) (text : List
       none done.scores.dump (subst (λ text. IsDump text done.scores.dump) (sym (same_text done.dump done.dump_is)) done.scores.is_dump)
       (same_bound done.design design done.scores.dump score.instance (sym (design_found done.sources done.design done.has_design)) done.scores.scores.accepted.bound)
 
--- a design of too many points has no score
-module _ (score : ScoreValues) (before : Outside) (large : IsTooLarge score before) where
-  too_large : (others : List SourceText) (other : Design) → HasDesign score before others other → ⊥
-  too_large others other has =
-      let p = large.points in
-      let same = same_design score before p.sources large.told p.gathered p.design p.stands others other has in
-      few_or_many (design_view other) has.few (subst HasManyPoints same p.many)
+-- a design whose points are not listed has no score
+module _ (score : ScoreValues) (before : Outside) (lacks : LacksPoints score before) where
+  not_listed : (others : List SourceText) (other : Design) → HasDesign score before others other → ⊥
+  not_listed others other has =
+      let same = same_design score before lacks.sources lacks.told lacks.gathered lacks.design lacks.stands others other has in
+      lacks.refused (subst (λ d. HasFewPoints d (machines_in score)) (sym same) has.few)
 
 -- how the faults of a score end
 record End (score : ScoreValues) (before middle : Outside) (Ends : Status → Type 0) : Type 0 where
   of_source : (f : SourceFault) → IsSourceFault (sources_in score) before middle f → Ends (source_status f)
-  of_points : HasTooManyPoints score before → Ends source_status_of
+  of_points : (p : PointFault) → HasPointsFault score before p → Ends (points_status p)
   of_dump : (r : DumpRefusal) → IsRefusedDump score before r → Ends dump_status
   of_contradiction : (x : Contradiction) → IsContradictedDump score before x → Ends contradiction_status
   of_file : (call : Call) (file : List ℕ) → NamesFile score call file → IsRefused call file before middle → HasSomeDesign score before → ⊥
@@ -175,7 +179,7 @@ module _ (words : List (List ℕ)) (score : ScoreValues) (is_score : IsScore wor
   ends_with : (f : Fault) → Stands words before middle f → Ends (status_of f)
   ends_with (fault.Usage usage) stands = absurd (command_or_fault words (of_score score, is_score) (usage, stands))
   ends_with (fault.Source f) stands = end.of_source f (subst (λ score. IsSourceFault (sources_in score) before middle f) (one_command words stands.0 score stands.1 is_score) stands.2)
-  ends_with fault.TooManyPoints stands = end.of_points (subst (λ score. HasTooManyPoints score before) (one_command words stands.0 score stands.1 is_score) stands.2)
+  ends_with (fault.Points p) stands = end.of_points p (subst (λ score. HasPointsFault score before p) (one_command words stands.0 score stands.1 is_score) stands.2)
   ends_with (fault.Dump r) stands = end.of_dump r (subst (λ score. IsRefusedDump score before r) (one_command words stands.0 score stands.1 is_score) stands.2)
   ends_with (fault.Contradiction x) stands = end.of_contradiction x (subst (λ score. IsContradictedDump score before x) (one_command words stands.0 score stands.1 is_score) stands.2)
   ends_with (fault.Files call file) stands =
@@ -215,7 +219,7 @@ module _ (words : List (List ℕ)) (before middle after : Outside) (first : Coun
       ends_with words score is before middle (EndsWith Done)
       (record {
         of_source = design_ends score good.design good.text good.texts (EndsWith Done) (inr refl);
-        of_points = λ many. absurd (not_too_many score before good.design good.text good.texts many);
+        of_points = λ p has. subst (λ q. EndsWith Done (points_status q)) (sym (points_listed score before good.design good.text good.texts p has)) (inr refl);
         of_dump = λ r refused. absurd (dump_stands score before good.design good.text good.texts good.dump good.is_dump good.bound r refused);
         of_contradiction = λ x refuted. absurd (dump_shown score before good.design good.text good.texts good.dump good.is_dump good.run good.shown x refuted);
         of_file = file_counted score good.text good.texts.dump_is;
@@ -227,7 +231,7 @@ module _ (words : List (List ℕ)) (before middle after : Outside) (first : Coun
       ends_with words score is before middle RefusesDump
       (record {
         of_source = design_ends score bad.design bad.text bad.texts RefusesDump (inr (inr refl));
-        of_points = λ many. absurd (not_too_many score before bad.design bad.text bad.texts many);
+        of_points = λ p has. subst (λ q. RefusesDump (points_status q)) (sym (points_listed score before bad.design bad.text bad.texts p has)) (inr (inr refl));
         of_dump = λ r refused. inl refl;
         of_contradiction = λ x refuted. inr (inl refl);
         of_file = file_counted score bad.text bad.texts.dump_is;
@@ -239,14 +243,20 @@ module _ (words : List (List ℕ)) (before middle after : Outside) (first : Coun
   bad_ends (source_fault.File call file) is = absurd is
   bad_ends (source_fault.Included call path) is = absurd is
   bad_ends (source_fault.Refused refusal) is = inl refl
-  bad_ends source_fault.NotYet is = inl refl
+
+  points_end_so : (p : PointFault) → EndsWith source_status_of (points_status p)
+  points_end_so point_fault.NoMemory = inr refl
+  points_end_so (point_fault.NoState name) = inl refl
+  points_end_so (point_fault.SameState name) = inl refl
+  points_end_so point_fault.TooManyPoints = inl refl
+  points_end_so (point_fault.TooManyStates name) = inl refl
 
   pub bad_source_ends : IsCommandWith HasBadSource words before → EndsWith source_status_of (status_of f)
   bad_source_ends (score, is, bad) =
       ends_with words score is before middle (EndsWith source_status_of)
       (record {
         of_source = λ g stands. bad_ends g (files_read (sources_in score) before bad.sources bad.told bad.gathered middle none_yet g stands);
-        of_points = λ many. inl refl;
+        of_points = λ p has. points_end_so p;
         of_dump = λ r refused. absurd (no_design score before bad.sources bad.told bad.gathered bad.refused r refused);
         of_contradiction = λ x refuted. absurd (no_shown_design score before bad.sources bad.told bad.gathered bad.refused x refuted);
         of_file = λ call file named refused has. no_some_design score before bad.sources bad.told bad.gathered bad.refused has;
@@ -262,8 +272,9 @@ module _ (words : List (List ℕ)) (before middle after : Outside) (first : Coun
       go : (f : Fault) → Stands words before middle f → WarnsLine (line_of f) before after → RefusesBinding words (status_of f) before after
       go (fault.Usage usage) stands warned = absurd (command_or_fault words (of_score score, is) (usage, stands))
       go (fault.Source g) stands warned = inr (memory_alone g (subst (λ score. IsSourceFault (sources_in score) before middle g) (one_command words stands.0 score stands.1 is) stands.2))
-      go fault.TooManyPoints stands warned =
-          absurd (not_too_many score before u.design u.text u.texts (subst (λ score. HasTooManyPoints score before) (one_command words stands.0 score stands.1 is) stands.2))
+      go (fault.Points p) stands warned =
+          let none = points_listed score before u.design u.text u.texts p (subst (λ score. HasPointsFault score before p) (one_command words stands.0 score stands.1 is) stands.2) in
+          inr (ap points_status none)
       go (fault.Dump r) stands warned =
           let refused = subst (λ score. IsRefusedDump score before r) (one_command words stands.0 score stands.1 is) stands.2 in
           inl (refl, record { score = score; refusal = r; is_score = is; refused = refused; of_binding = of_binding score before u.design u.text u.texts u.b u.says u.refused r refused; warned = warned })
@@ -276,25 +287,31 @@ module _ (words : List (List ℕ)) (before middle after : Outside) (first : Coun
       go fault.Memory stands warned = inr refl
       go (fault.Databases f) stands warned = absurd (score_or_databases words score before middle f is stands)
 
-  -- of a design of too many points no other fault stands
-  pub points_end : IsCommandWith IsTooLarge words before → WarnsLine (line_of f) before after → RefusesPoints (status_of f) before after
-  points_end (score, is, large) warned = go f stands warned
+  -- of a design whose points are not listed no other fault stands
+  pub points_end : IsCommandWith LacksPoints words before → WarnsLine (line_of f) before after → RefusesPoints words (status_of f) before after
+  points_end (score, is, lacks) warned = go f stands warned
     where
-      go : (f : Fault) → Stands words before middle f → WarnsLine (line_of f) before after → RefusesPoints (status_of f) before after
+      so : (p : PointFault) → HasPointsFault score before p → WarnsLine (points_line p) before after → RefusesPoints words (points_status p) before after
+      so point_fault.NoMemory has warned = inr refl
+      so (point_fault.NoState name) has warned = inl (refl, record { score = score; fault = point_fault.NoState name; is_score = is; stands = has; warned = warned })
+      so (point_fault.SameState name) has warned = inl (refl, record { score = score; fault = point_fault.SameState name; is_score = is; stands = has; warned = warned })
+      so point_fault.TooManyPoints has warned = inl (refl, record { score = score; fault = point_fault.TooManyPoints; is_score = is; stands = has; warned = warned })
+      so (point_fault.TooManyStates name) has warned = inl (refl, record { score = score; fault = point_fault.TooManyStates name; is_score = is; stands = has; warned = warned })
+
+      go : (f : Fault) → Stands words before middle f → WarnsLine (line_of f) before after → RefusesPoints words (status_of f) before after
       go (fault.Usage usage) stands warned = absurd (command_or_fault words (of_score score, is) (usage, stands))
       go (fault.Source g) stands warned =
-          let p = large.points in
-          inr (ap source_status (design_or_fault (sources_in score) before p.sources large.told p.gathered p.design p.stands middle none_yet g (subst (λ score. IsSourceFault (sources_in score) before middle g) (one_command words stands.0 score stands.1 is) stands.2)))
-      go fault.TooManyPoints stands warned = inl (refl, warned)
+          inr (ap source_status (design_or_fault (sources_in score) before lacks.sources lacks.told lacks.gathered lacks.design lacks.stands middle none_yet g (subst (λ score. IsSourceFault (sources_in score) before middle g) (one_command words stands.0 score stands.1 is) stands.2)))
+      go (fault.Points p) stands warned = so p (subst (λ score. HasPointsFault score before p) (one_command words stands.0 score stands.1 is) stands.2) warned
       go (fault.Dump r) stands warned =
           let refused = subst (λ score. IsRefusedDump score before r) (one_command words stands.0 score stands.1 is) stands.2 in
-          absurd (too_large score before large refused.sources refused.design refused.has_design)
+          absurd (not_listed score before lacks refused.sources refused.design refused.has_design)
       go (fault.Contradiction x) stands warned =
           let refuted = subst (λ score. IsContradictedDump score before x) (one_command words stands.0 score stands.1 is) stands.2 in
-          absurd (too_large score before large refuted.sources refuted.design refuted.has_design)
+          absurd (not_listed score before lacks refuted.sources refuted.design refuted.has_design)
       go (fault.Files call file) stands warned =
           let has = subst (λ score. HasSomeDesign score before) (one_command words stands.0 score stands.1 is) stands.2.2 in
-          absurd (too_large score before large has.0 has.1 has.2)
+          absurd (not_listed score before lacks has.0 has.1 has.2)
       go fault.Memory stands warned = inr refl
       go (fault.Databases f) stands warned = absurd (score_or_databases words score before middle f is stands)
 
@@ -318,5 +335,5 @@ module _ (words : List (List ℕ)) (before after : Outside) (done : IsDone words
   pub unbound_not_done : IsCommandWith HasUnboundDump words before → ⊥
   unbound_not_done unbound = bad_dump_not_done (bad_command words before unbound)
 
-  pub points_not_done : IsCommandWith IsTooLarge words before → ⊥
-  points_not_done (score, is, large) = let by = done_by score is in too_large score before large by.sources by.design by.has_design
+  pub points_not_done : IsCommandWith LacksPoints words before → ⊥
+  points_not_done (score, is, lacks) = let by = done_by score is in not_listed score before lacks by.sources by.design by.has_design

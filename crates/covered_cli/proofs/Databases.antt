@@ -31,9 +31,12 @@ use Rattle.source_design.specs.Words.{SourceValues}
 use Rattle.source_design.specs.declared.fault.SourceFault.{SourceFault}
 use Rattle.source_design.specs.declared.fault.SourceFault.TheVariants as source_fault
 use Rattle.covered_cli.specs.ScoreSources.{sources_in}
+use Rattle.covered_cli.specs.PointsMessage.{points_status}
 use Rattle.covered_cli.specs.SourceMessage.{source_status}
+use Rattle.design_points.specs.cover_points.declared.fault.PointFault.{PointFault}
+use Rattle.design_points.specs.cover_points.declared.fault.PointFault.TheVariants as point_fault
 use Rattle.covered_cli.specs.declared.fault.Fault.{Fault}
-use Rattle.covered_cli.specs.declared.fault.Fault.TheVariants.{Usage, Source, TooManyPoints, Dump, Contradiction, Files as FilesFault, Memory, Databases}
+use Rattle.covered_cli.specs.declared.fault.Fault.TheVariants.{Usage, Source, Points as PointsFault, Dump, Contradiction, Files as FilesFault, Memory, Databases}
 use Rattle.covered_cli.specs.declared.status.Status.TheVariants as status
 use Rattle.covered_cli.proofs.Causes.{command_or_fault}
 
@@ -41,7 +44,7 @@ use Rattle.covered_cli.proofs.Causes.{command_or_fault}
 pub early_status : (fault : Fault) → HasEarlyStatus (status_of fault) → IsEarly fault
 early_status (Usage usage) early = tt
 early_status (Source f) early = tt
-early_status TooManyPoints early = tt
+early_status (PointsFault p) early = tt
 early_status (Dump refusal) early = tt
 early_status (Contradiction found) early = tt
 early_status (FilesFault call file) early = absurd early
@@ -91,7 +94,7 @@ good_fault alloc words before after none (inr (inr good)) f (inr (inr stands)) =
 pub good_databases_end : (alloc : Global) (words : List (List ℕ)) (before middle after : Outside) → CountsUp before middle → CountsUp middle after → NoFaults before after → (fault : Fault) → Stands words before middle fault → HasGoodDatabases words before → EndsWith status.Done (status_of fault)
 good_databases_end alloc words before middle after first second none (Usage usage) stands good = absurd (command_or_fault words (good_are_words words before good) (usage, stands))
 good_databases_end alloc words before middle after first second none (Source f) stands good = absurd (good_or_score words before stands.0 good stands.1)
-good_databases_end alloc words before middle after first second none TooManyPoints stands good = absurd (good_or_score words before stands.0 good stands.1)
+good_databases_end alloc words before middle after first second none (PointsFault p) stands good = absurd (good_or_score words before stands.0 good stands.1)
 good_databases_end alloc words before middle after first second none (Dump refusal) stands good = absurd (good_or_score words before stands.0 good stands.1)
 good_databases_end alloc words before middle after first second none (Contradiction found) stands good = absurd (good_or_score words before stands.0 good stands.1)
 good_databases_end alloc words before middle after first second none (FilesFault call file) stands good = absurd (good_or_score words before stands.0 good stands.1)
@@ -120,17 +123,30 @@ database_fault_cause words before after (database.DesignsDiffer file line first 
 database_fault_cause words before after (database.DesignsDiffer file line first other) (inr (inl (report, is_report, fault))) is = absurd fault
 database_fault_cause words before after (database.DesignsDiffer file line first other) (inr (inr (lcov, is_lcov, fault))) is = absurd fault
 
+points_no_database : (p : PointFault) → points_status p ≡ status.Database → ⊥
+points_no_database point_fault.NoMemory same = cc
+points_no_database (point_fault.NoState name) same = cc
+points_no_database (point_fault.SameState name) same = cc
+points_no_database point_fault.TooManyPoints same = cc
+points_no_database (point_fault.TooManyStates name) same = cc
+
+points_no_files : (p : PointFault) → points_status p ≡ status.Files → ⊥
+points_no_files point_fault.NoMemory same = cc
+points_no_files (point_fault.NoState name) same = cc
+points_no_files (point_fault.SameState name) same = cc
+points_no_files point_fault.TooManyPoints same = cc
+points_no_files (point_fault.TooManyStates name) same = cc
+
 source_no_database : (f : SourceFault) → source_status f ≡ status.Database → ⊥
 source_no_database source_fault.NoMemory same = cc
 source_no_database (source_fault.File call file) same = cc
 source_no_database (source_fault.Included call path) same = cc
 source_no_database (source_fault.Refused refusal) same = cc
-source_no_database source_fault.NotYet same = cc
 
 pub database_cause : (words : List (List ℕ)) (before after : Outside) (fault : Fault) → Stands words before after fault → status_of fault ≡ status.Database → HasDatabaseCause words before
 database_cause words before after (Usage usage) stands is = absurd (cc)
 database_cause words before after (Source f) stands is = absurd (source_no_database f is)
-database_cause words before after TooManyPoints stands is = absurd (cc)
+database_cause words before after (PointsFault p) stands is = absurd (points_no_database p is)
 database_cause words before after (Dump refusal) stands is = absurd (cc)
 database_cause words before after (Contradiction found) stands is = absurd (cc)
 database_cause words before after (FilesFault call file) stands is = absurd (cc)
@@ -171,7 +187,6 @@ source_files_cause words before after score is (source_fault.File call file) sta
     source_call words before after call file.now (inl (of_score score, is, Contains-append_right (score.dump ∷ []) score.sources file.now (root_named (sources_in score) before after call file.now stands))) stands.refused
 source_files_cause words before after score is (source_fault.Included call path) stands same = source_call words before after call path (inr (score, is, stands.0)) stands.1
 source_files_cause words before after score is (source_fault.Refused refusal) stands same = absurd cc
-source_files_cause words before after score is source_fault.NotYet stands same = absurd cc
 
 reading_call : (words : List (List ℕ)) (before after : Outside) (call : Call) (file : List ℕ) → IsReading call → IsInput words file → IsRefusedFile call file before after → HasFilesCause words before after
 reading_call words before after OpenRead file reading input refused = missing_cause words before after file input refused
@@ -200,7 +215,7 @@ databases_files_cause words before after (database.DesignsDiffer file line first
 files_fault_cause : (words : List (List ℕ)) (before after : Outside) (fault : Fault) → Stands words before after fault → status_of fault ≡ status.Files → HasFilesCause words before after
 files_fault_cause words before after (Usage usage) stands is = absurd (cc)
 files_fault_cause words before after (Source f) stands is = source_files_cause words before after stands.0 stands.1 f stands.2 is
-files_fault_cause words before after TooManyPoints stands is = absurd (cc)
+files_fault_cause words before after (PointsFault p) stands is = absurd (points_no_files p is)
 files_fault_cause words before after (Dump refusal) stands is = absurd (cc)
 files_fault_cause words before after (Contradiction found) stands is = absurd (cc)
 files_fault_cause words before after (FilesFault call file) stands is = score_call words before after stands.0 call file.now stands.1 stands.2.0 stands.2.1
@@ -259,7 +274,6 @@ module _ (before middle after : Outside) (first : CountsUp before middle) (secon
       record { front = stands.front; others = stands.others; sources = stands.sources; stands = stands.stands; roots = stands.roots; within = stands.within; refused = source_call_later call file.now stands.refused }
   source_later words (source_fault.Included call path) stands = (stands.0, source_call_later call path stands.1)
   source_later words (source_fault.Refused refusal) stands = stands
-  source_later words source_fault.NotYet stands = stands
 
   merge_fault_later : (merge : MergeValues) (f : CommandFault) → IsMergeFault merge before middle f → IsMergeFault merge before after f
   merge_fault_later merge (database.Files call file) (inl fault) = inl (fault.0, fault.1, refused_file_later call file.now fault.2)
@@ -293,7 +307,7 @@ module _ (before middle after : Outside) (first : CountsUp before middle) (secon
   pub stands_later : (words : List (List ℕ)) (fault : Fault) → Stands words before middle fault → Stands words before after fault
   stands_later words (Usage usage) stands = stands
   stands_later words (Source f) stands = (stands.0, stands.1, source_later (sources_in stands.0) f stands.2)
-  stands_later words TooManyPoints stands = stands
+  stands_later words (PointsFault p) stands = stands
   stands_later words (Dump refusal) stands = stands
   stands_later words (Contradiction found) stands = stands
   stands_later words (FilesFault call file) stands = (stands.0, stands.1, (stands.2.0, refused_later call file.now stands.2.1, stands.2.2))

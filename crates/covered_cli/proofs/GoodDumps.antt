@@ -15,7 +15,7 @@ use Rattle.design_model.specs.declared.design.Memory.{Memory}
 use Rattle.design_model.specs.declared.design.Signal.{Signal}
 use Rattle.design_model.specs.declared.tree.Process.{Process}
 use Rattle.dump_score.specs.dump_replay.Faults.{IsContradicted}
-use Rattle.event_machine.specs.Habit.{Free}
+use Rattle.event_machine.specs.Habit.{Habit}
 use Rattle.four_state.specs.Vector.{Vector}
 use Rattle.four_state.specs.declared.bit.Bit.{Bit}
 use Rattle.shown_dumps.proofs.Fronts.{front}
@@ -72,10 +72,10 @@ same_bound a b dump instance same bound =
     record { bindable = same_bindable a b dump.vars instance same bound.bindable; first_values = other.first_values }
 
 -- and the same runs show them
-pub same_shown : (a b : Design) (dump : Dump) (instance : List ℕ) → design_view a ≡ design_view b → (run : Run) → IsShownBy (design_view a) Free (bound_dump a dump instance) run → IsShownBy (design_view b) Free (bound_dump b dump instance) run
-same_shown a b dump instance same run shown =
-    subst (λ d. IsShownBy d Free (bound_dump b dump instance) run) same
-    (subst (λ p. IsShownBy (design_view a) Free p run) (ap (λ d. bound_dump d dump instance) (one_beside_processes a b same)) shown)
+pub same_shown : (habit : Habit) (a b : Design) (dump : Dump) (instance : List ℕ) → design_view a ≡ design_view b → (run : Run) → IsShownBy (design_view a) habit (bound_dump a dump instance) run → IsShownBy (design_view b) habit (bound_dump b dump instance) run
+same_shown habit a b dump instance same run shown =
+    subst (λ d. IsShownBy d habit (bound_dump b dump instance) run) same
+    (subst (λ p. IsShownBy (design_view a) habit p run) (ap (λ d. bound_dump d dump instance) (one_beside_processes a b same)) shown)
 
 -- ---- what is said of a dump
 
@@ -127,8 +127,8 @@ module _ (design : Design) (dump : Dump) (instance text : List ℕ) (is : IsDump
       some_or_none _ value (ap (λ ss. first_value ss lacks.code) steps ∙ first_stays some.0.items further.more lacks.code early ∙ lacks.none)
 
   -- a dump that a run shows, and what was read of it
-  module _ (run : Run) (shown : IsShownBy (design_view design) Free (bound_dump design dump instance) run) (b : Body) (says : SaysBody text b) (s time : ℕ) (dumped : Vector) (computed : List (Option Bit))
-      (c : IsContradicted design b.vars instance b.items s time dumped computed) where
+  module _ (habit : Habit) (run : Run) (shown : IsShownBy (design_view design) habit (bound_dump design dump instance) run) (b : Body) (says : SaysBody text b) (s time : ℕ) (dumped : Vector) (computed : List (Option Bit))
+      (c : IsContradicted habit design b.vars instance b.items s time dumped computed) where
     -- the whole dump says the entries before the next time, this time, and maybe more
     items : is.b.items ≡ c.ends.front ++ Time c.ends.next ∷ (goes_on b says).more
     items = (goes_on b says).items ∙ ap (λ es. es ++ (goes_on b says).more) c.ends.are ∙ append_assoc c.ends.front (Time c.ends.next ∷ []) (goes_on b says).more
@@ -154,7 +154,7 @@ module _ (design : Design) (dump : Dump) (instance text : List ℕ) (is : IsDump
     none_contradicts = c.refuted.contradicted run (record { is_run = shown.is_run; shows = shows_read })
 
   -- a dump that a run shows is not contradicted
-  pub not_contradicted : (run : Run) → IsShownBy (design_view design) Free (bound_dump design dump instance) run → (x : Contradiction) → IsContradictedText design instance text x → ⊥
-  not_contradicted run shown x refuted =
+  pub not_contradicted : (habit : Habit) (run : Run) → IsShownBy (design_view design) habit (bound_dump design dump instance) run → (x : Contradiction) → IsContradictedText habit design instance text x → ⊥
+  not_contradicted habit run shown x refuted =
       let some = refuted.2 in
-      none_contradicts run shown some.0 some.1 refuted.0 x.time x.dumped x.computed.bits some.2
+      none_contradicts habit run shown some.0 some.1 refuted.0 x.time x.dumped x.computed.bits some.2

@@ -5,6 +5,7 @@ pub mod Databases
 pub mod SourceNames
 pub mod Designs
 pub mod Lines
+pub mod Machines
 pub mod Scoring
 pub mod Refusing
 pub mod WordLists

@@ -5,7 +5,8 @@ use Rattle.cov_host.specs.Outside.{Outside, IsCounted}
 use Rattle.design_model.specs.declared.design.Design.{Design}
 use Rattle.design_model.specs.Run.{Run}
 use Rattle.design_model.specs.View.{design_view}
-use Rattle.event_machine.specs.Habit.{Free}
+use Rattle.design_points.specs.Counted.{HasFewPoints}
+use Rattle.design_points.specs.cover_points.declared.fault.PointFault.{PointFault}
 use Rattle.shown_dumps.specs.Bound.{IsBound}
 use Rattle.shown_dumps.specs.Shown.{bound_dump}
 use Rattle.signal_binding.specs.Binding.{IsBindable}
@@ -13,13 +14,14 @@ use Rattle.vcd_reader.specs.Dump.{Dump as SpecDump, IsDump, SaysBody}
 use Rattle.vcd_reader.specs.Reading.{Body}
 use Rattle.covered_cli.specs.DumpRefusal.{refusal_line}
 use Rattle.covered_cli.specs.Effects.{WarnsLine}
-use Rattle.covered_cli.specs.Fault.{points_line}
+use Rattle.covered_cli.specs.PointsMessage.{points_line}
 use Rattle.source_design.specs.Accepted.{StandFor}
 use Rattle.source_design.specs.Reading.{HasSources}
 use Rattle.dump_score.specs.verdict_laws.Sound.{IsShownBy}
 use Rattle.verilog_lexer.specs.Sources.{SourceText}
+use Rattle.covered_cli.specs.ScoreMachines.{habit_in, machines_in}
 use Rattle.covered_cli.specs.ScoreSources.{sources_in}
-use Rattle.covered_cli.specs.Scoring.{HasDesign, HasNoScore, HasTooManyPoints, IsRefusedDump}
+use Rattle.covered_cli.specs.Scoring.{HasDesign, HasNoScore, HasPointsFault, IsRefusedDump}
 use Rattle.covered_cli.specs.declared.dump_refusal.DumpRefusal.{DumpRefusal}
 use Rattle.covered_cli.specs.declared.dump_refusal.DumpRefusal.TheVariants as refusal
 use Rattle.covered_cli.specs.declared.status.Status.{Status}
@@ -44,7 +46,7 @@ pub record IsGoodScore (score : ScoreValues) (before : Outside) : Type 0 where
   pub is_dump : IsDump text dump
   pub bound : IsBound design dump score.instance
   pub run : Run
-  pub shown : IsShownBy (design_view design) Free (bound_dump design dump score.instance) run
+  pub shown : IsShownBy (design_view design) (habit_in score) (bound_dump design dump score.instance) run
 
 -- the sources are known, with all that they include, and have no design, whatever the dump is
 pub record HasBadSource (score : ScoreValues) (before : Outside) : Type 0 where
@@ -53,10 +55,14 @@ pub record HasBadSource (score : ScoreValues) (before : Outside) : Type 0 where
   pub gathered : HasSources (sources_in score) before sources
   pub refused : (design : Design) → StandFor sources (sources_in score).defines score.top design → ⊥
 
--- the files are known, and the sources have a design of more points than are scored, whatever the dump is
-pub record IsTooLarge (score : ScoreValues) (before : Outside) : Type 0 where
+-- the files are known, and the sources have a design whose points with the machines of the command are not listed or too many, whatever the dump is
+pub record LacksPoints (score : ScoreValues) (before : Outside) : Type 0 where
+  pub sources : List SourceText
+  pub design : Design
   pub told : IsSome before.files
-  pub points : HasTooManyPoints score before
+  pub gathered : HasSources (sources_in score) before sources
+  pub stands : StandFor sources (sources_in score).defines score.top design
+  pub refused : HasFewPoints (design_view design) (machines_in score) → ⊥
 
 -- the sources have a design, and the text of the dump is none that has the instance, each input, and a first value of each signal that it has
 pub record HasBadDump (score : ScoreValues) (before : Outside) : Type 0 where
@@ -89,6 +95,14 @@ pub record WarnsBinding (words : List (List ℕ)) (before after : Outside) : Typ
   pub of_binding : IsOfBinding refusal
   pub warned : WarnsLine (refusal_line refusal) before after
 
+-- the words are a command whose design has the fault of points, and the line of that was warned
+pub record WarnsPoints (words : List (List ℕ)) (before after : Outside) : Type 0 where
+  pub score : ScoreValues
+  pub fault : PointFault
+  pub is_score : IsScore words score
+  pub stands : HasPointsFault score before fault
+  pub warned : WarnsLine (points_line fault) before after
+
 -- the words are a command, of which this holds
 abbrev pub IsCommandWith : (ScoreValues → Outside → Type 0) → List (List ℕ) → Outside → Type 0
 IsCommandWith P words before = (score : ScoreValues) × IsScore words score × P score before
@@ -105,9 +119,9 @@ EndsWith expected status = (status ≡ expected) ⊎ (status ≡ Memory)
 abbrev pub RefusesDump : Status → Type 0
 RefusesDump status = (status ≡ Dump) ⊎ ((status ≡ Contradiction) ⊎ (status ≡ Memory))
 
--- too many points were refused, with the line of that, or memory ran out
-abbrev pub RefusesPoints : Status → Outside → Outside → Type 0
-RefusesPoints status before after = ((status ≡ Source) × WarnsLine points_line before after) ⊎ (status ≡ Memory)
+-- the points were refused, with the line of that, or memory ran out
+abbrev pub RefusesPoints : List (List ℕ) → Status → Outside → Outside → Type 0
+RefusesPoints words status before after = ((status ≡ Source) × WarnsPoints words before after) ⊎ (status ≡ Memory)
 
 -- a binding was refused, or memory ran out
 abbrev pub RefusesBinding : List (List ℕ) → Status → Outside → Outside → Type 0

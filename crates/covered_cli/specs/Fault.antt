@@ -15,15 +15,18 @@ use Rattle.database_commands.specs.declared.fault.CommandFault.{CommandFault}
 use Rattle.design_model.specs.View.{design_view}
 use Rattle.design_model.specs.declared.design.Design.{Design}
 use Rattle.dump_score.specs.Reading.{IsFile}
-use Rattle.design_points.specs.Counted.{HasManyPoints}
+use Rattle.design_model.specs.Points.{StateNames}
+use Rattle.design_points.specs.cover_points.Faults.{IsPointFault}
 use Rattle.whole_files.specs.Call.{call_name}
 use Rattle.whole_files.specs.Effects.{IsMissing}
 use Rattle.whole_files.specs.declared.call.Call.{Call}
 use Rattle.whole_files.specs.declared.call.Call.TheVariants.{OpenRead, Read, OpenWrite, Write, CloseWrite}
 use Rattle.covered_cli.specs.Contradiction.{contradiction_line}
 use Rattle.covered_cli.specs.Databases.{database_line, database_status}
+use Rattle.covered_cli.specs.PointsMessage.{points_line, points_status}
+use Rattle.covered_cli.specs.ScoreMachines.{habit_in}
 use Rattle.covered_cli.specs.ScoreSources.{sources_in}
-use Rattle.covered_cli.specs.Scoring.{HasSomeDesign, HasTooManyPoints, IsContradictedDump, IsContradictedText, IsDumpRefusal, IsRefusedDump}
+use Rattle.covered_cli.specs.Scoring.{HasPointsFault, HasSomeDesign, IsContradictedDump, IsContradictedText, IsDumpRefusal, IsRefusedDump}
 use Rattle.covered_cli.specs.SourceMessage.{source_line, source_status}
 use Rattle.covered_cli.specs.DumpRefusal.{refusal_line}
 use Rattle.source_design.specs.Reading.{IsSourceFault}
@@ -36,22 +39,18 @@ use Rattle.covered_cli.specs.declared.status.Status.TheVariants as status
 abbrev pub status_of : Fault → Status
 status_of (fault.Usage usage) = status.Usage
 status_of (fault.Source f) = source_status f
-status_of fault.TooManyPoints = status.Source
+status_of (fault.Points f) = points_status f
 status_of (fault.Dump refusal) = status.Dump
 status_of (fault.Contradiction x) = status.Contradiction
 status_of (fault.Files call file) = status.Files
 status_of fault.Memory = status.Memory
 status_of (fault.Databases f) = database_status f
 
--- the line of a design that has more points than are scored
-abbrev pub points_line : List ℕ
-points_line = codes "covered: source: points 3 TooManyPoints\n"
-
 -- the line that is warned
 abbrev pub line_of : Fault → List ℕ
 line_of (fault.Usage usage) = codes "covered: usage: " ++ usage_text usage ++ codes "\n"
 line_of (fault.Source f) = source_line f
-line_of fault.TooManyPoints = points_line
+line_of (fault.Points f) = points_line f
 line_of (fault.Dump refusal) = refusal_line refusal
 line_of (fault.Contradiction x) = contradiction_line x
 line_of (fault.Files call file) = codes "covered: files: " ++ call_name call ++ codes " " ++ file.now ++ codes "\n"
@@ -70,11 +69,11 @@ IsRefused OpenRead file before after = IsCounted before.faults after.faults ⊎ 
 IsRefused call file before after = IsCounted before.faults after.faults
 
 -- this command has the fault between two outsides; one of the dump or of the output only where the sources
--- have a design, with no more points than are scored
+-- have a design, whose points are listed
 abbrev pub StandsIn : ScoreValues → Outside → Outside → Fault → Type 0
 StandsIn score before after (fault.Usage usage) = ⊥
 StandsIn score before after (fault.Source f) = IsSourceFault (sources_in score) before after f
-StandsIn score before after fault.TooManyPoints = HasTooManyPoints score before
+StandsIn score before after (fault.Points f) = HasPointsFault score before f
 StandsIn score before after (fault.Dump refusal) = IsRefusedDump score before refusal
 StandsIn score before after (fault.Contradiction x) = IsContradictedDump score before x
 StandsIn score before after (fault.Files call file) = NamesFile score call file.now × IsRefused call file.now before after × HasSomeDesign score before
@@ -152,21 +151,21 @@ IsDesignFault score before after (fault.Source f) = IsSourceFault (sources_in sc
 IsDesignFault score before after fault.Memory = Unit {0}
 IsDesignFault score before after other = ⊥
 
--- the points of the design were not listed: they are too many
-abbrev pub IsPointsFault : Design → Fault → Type 0
-IsPointsFault design fault.TooManyPoints = HasManyPoints (design_view design)
-IsPointsFault design fault.Memory = Unit {0}
-IsPointsFault design other = ⊥
+-- the points of the design with these machines were not listed
+abbrev pub IsPointsFault : Design → List StateNames → Fault → Type 0
+IsPointsFault design machines (fault.Points f) = IsPointFault (design_view design) machines f
+IsPointsFault design machines other = ⊥
 
 -- the design was not scored by the command's dump
 abbrev pub IsScoringFault : ScoreValues → Design → Outside → Outside → Fault → Type 0
 IsScoringFault score design before after (fault.Dump refusal) = (text : List ℕ) × IsFile before score.dump text × IsDumpRefusal design score.instance text refusal
-IsScoringFault score design before after (fault.Contradiction x) = (text : List ℕ) × IsFile before score.dump text × IsContradictedText design score.instance text x
+IsScoringFault score design before after (fault.Contradiction x) = (text : List ℕ) × IsFile before score.dump text × IsContradictedText (habit_in score) design score.instance text x
 IsScoringFault score design before after other = IsReadingFault score.dump before after other
 
--- the fault is none of sources, none of a dump or its contradiction, and none of a command over databases
+-- the fault is none of sources or points, none of a dump or its contradiction, and none of a command over databases
 abbrev pub IsPlain : Fault → Type 0
 IsPlain (fault.Source f) = ⊥
+IsPlain (fault.Points f) = ⊥
 IsPlain (fault.Dump refusal) = ⊥
 IsPlain (fault.Contradiction x) = ⊥
 IsPlain (fault.Databases f) = ⊥

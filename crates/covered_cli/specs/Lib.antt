@@ -9,4 +9,6 @@ pub mod Refusing
 pub mod Fault
 pub mod Status
 pub mod ScoreSources
+pub mod ScoreMachines
 pub mod SourceMessage
+pub mod PointsMessage

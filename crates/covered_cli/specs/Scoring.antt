@@ -1,5 +1,5 @@
 -- What a `score` command reads and writes, and why it cannot.
-use Rattle.std.specs.Prelude.{◌≡◌, ℕ, false, List, [], map}
+use Rattle.std.specs.Prelude.{◌≡◌, ℕ, false, List, map}
 use Rattle.std.specs.List.{list_any}
 use Rattle.command_line.specs.CommandWords.{ScoreValues}
 use Rattle.command_line.specs.Command.{AreWordsOf, CommandValues, score as of_score, merge as of_merge, report as of_report, lcov as of_lcov, command_values}
@@ -12,14 +12,17 @@ use Rattle.database_commands.specs.Merging.{IsMergedIn}
 use Rattle.database_commands.specs.Reporting.{IsReportedIn}
 use Rattle.database_commands.specs.Tracing.{IsTracedIn}
 use Rattle.design_model.specs.Design.{path_of}
+use Rattle.design_model.specs.Points.{StateNames}
 use Rattle.design_model.specs.View.{design_view}
 use Rattle.design_model.specs.declared.design.Design.{Design}
-use Rattle.design_points.specs.Counted.{HasFewPoints, HasManyPoints}
+use Rattle.design_points.specs.Counted.{HasFewPoints}
+use Rattle.design_points.specs.cover_points.Faults.{IsPointFault}
+use Rattle.design_points.specs.cover_points.declared.fault.PointFault.{PointFault}
 use Rattle.dump_score.specs.dump_replay.Faults.{IsContradicted}
 use Rattle.dump_score.specs.Faults.{IsDumpFault, SaysSome}
 use Rattle.dump_score.specs.Reading.{IsFile}
 use Rattle.dump_score.specs.Scoring.{AreForced}
-use Rattle.event_machine.specs.Habit.{Free}
+use Rattle.event_machine.specs.Habit.{Habit}
 use Rattle.dump_score.specs.score_tables.Head.{HasHead}
 use Rattle.shown_dumps.specs.Bound.{HasNoBaseline, IsBound}
 use Rattle.shown_dumps.specs.Shown.{bound_dump}
@@ -33,24 +36,25 @@ use Rattle.vcd_reader.specs.declared.fault.DumpFault.TheVariants.{At}
 use Rattle.dump_score.specs.verdict_laws.Reasoned.{IsReasoned}
 use Rattle.dump_score.specs.verdict_laws.Sound.{IsSound}
 use Rattle.verilog_lexer.specs.Sources.{SourceText}
+use Rattle.covered_cli.specs.ScoreMachines.{habit_in, machines_in}
 use Rattle.covered_cli.specs.ScoreSources.{sources_in}
 use Rattle.covered_cli.specs.declared.contradiction.Contradiction.{Contradiction}
 use Rattle.covered_cli.specs.declared.dump_refusal.DumpRefusal.{DumpRefusal}
 use Rattle.covered_cli.specs.declared.dump_refusal.DumpRefusal.TheVariants as refusal
 
--- the sources of the command have the design, and it has no more points than are scored
+-- the sources of the command have the design, and its points with the machines of the command are no more than are scored
 pub record HasDesign (score : ScoreValues) (before : Outside) (sources : List SourceText) (design : Design) : Type 0 where
   pub gathered : HasSources (sources_in score) before sources
   pub stands : StandFor sources (sources_in score).defines score.top design
-  pub few : HasFewPoints (design_view design)
+  pub few : HasFewPoints (design_view design) (machines_in score)
 
--- the sources of the command have a design, and it has more points than are scored
-pub record HasTooManyPoints (score : ScoreValues) (before : Outside) : Type 0 where
+-- the sources of the command have a design, and this is the fault of its points with the machines of the command
+pub record HasPointsFault (score : ScoreValues) (before : Outside) (fault : PointFault) : Type 0 where
   pub sources : List SourceText
   pub design : Design
   pub gathered : HasSources (sources_in score) before sources
   pub stands : StandFor sources (sources_in score).defines score.top design
-  pub many : HasManyPoints (design_view design)
+  pub is : IsPointFault (design_view design) (machines_in score) fault
 
 -- the sources of the command have some design, with no more points than are scored
 abbrev pub HasSomeDesign : ScoreValues → Outside → Type 0
@@ -65,26 +69,26 @@ abbrev pub HasNoScore : Design → List ℕ → List ℕ → Type 0
 HasNoScore design instance text = (dump : Dump) → IsDump text dump → IsBound design dump instance → ⊥
 
 -- the dump has the instance, a variable of each input, and a first value of each signal that has a variable, and no forced value differs from its own
-pub record IsAccepted (design : Design) (dump : Dump) (instance : List ℕ) : Type 0 where
+pub record IsAccepted (habit : Habit) (design : Design) (dump : Dump) (instance : List ℕ) : Type 0 where
   pub bound : IsBound design dump instance
-  pub forced : AreForced (design_view design) (bound_dump design dump instance)
+  pub forced : AreForced habit (design_view design) (bound_dump design dump instance)
 
--- The table lists each coverage point of the design once. In every run of the design that shows the dump, each point marked hit is hit and each point
--- marked missed is never hit. Each undetermined point names a signal and a time at which that signal is in doubt for its block.
-pub record IsScoreOf (design : Design) (dump : Dump) (names : List (List ℕ)) (instance : List ℕ) (db : Db) : Type 0 where
-  pub accepted : IsAccepted design dump instance
+-- The table lists each coverage point of the design with these state machines once. In every run of the design by this habit that shows the dump, each
+-- point marked hit is hit and each point marked missed is never hit. Each undetermined point names a signal and a time at which that signal is in doubt for its block.
+pub record IsScoreOf (habit : Habit) (design : Design) (machines : List StateNames) (dump : Dump) (names : List (List ℕ)) (instance : List ℕ) (db : Db) : Type 0 where
+  pub accepted : IsAccepted habit design dump instance
   pub table : IsTable db
   pub head : HasHead (design_view design) names db
-  pub listed : ListsPoints (design_view design) [] db
-  pub sound : IsSound (design_view design) Free (bound_dump design dump instance) [] db
-  pub reasoned : IsReasoned (design_view design) Free (bound_dump design dump instance) [] db
+  pub listed : ListsPoints (design_view design) machines db
+  pub sound : IsSound (design_view design) habit (bound_dump design dump instance) machines db
+  pub reasoned : IsReasoned (design_view design) habit (bound_dump design dump instance) machines db
 
 -- the text is that of a table of the design under the dump of this text
-pub record IsScoreText (design : Design) (names : List (List ℕ)) (dump_text instance text : List ℕ) : Type 0 where
+pub record IsScoreText (habit : Habit) (design : Design) (machines : List StateNames) (names : List (List ℕ)) (dump_text instance text : List ℕ) : Type 0 where
   pub dump : Dump
   pub db : Db
   pub is_dump : IsDump dump_text dump
-  pub scores : IsScoreOf design dump names instance db
+  pub scores : IsScoreOf habit design machines dump names instance db
   pub is_text : text ≡ text_of db
 
 -- why the text is refused as the dump of a design: its first fault, which is one of its header or is where the design is
@@ -97,11 +101,11 @@ IsDumpRefusal design instance text (refusal.InputNotDumped path) =
 IsDumpRefusal design instance text (refusal.NoBaseline path) =
     (s : ℕ) × (path ≡ path_of (design_view design) s) × SaysSome text (λ b. HasNoBaseline design b.vars instance b.items s)
 
--- the text says something, without a fault before it, of which no run of the design shows what it says up to the time; of the signal of this path the
+-- the text says something, without a fault before it, of which no run of the design by this habit shows what it says up to the time; of the signal of this path the
 -- dump then says something else in a sure bit than what the design makes of it
-abbrev pub IsContradictedText : Design → List ℕ → List ℕ → Contradiction → Type 0
-IsContradictedText design instance text x =
-    (s : ℕ) × (x.path ≡ path_of (design_view design) s) × SaysSome text (λ b. IsContradicted design b.vars instance b.items s x.time x.dumped x.computed.bits)
+abbrev pub IsContradictedText : Habit → Design → List ℕ → List ℕ → Contradiction → Type 0
+IsContradictedText habit design instance text x =
+    (s : ℕ) × (x.path ≡ path_of (design_view design) s) × SaysSome text (λ b. IsContradicted habit design b.vars instance b.items s x.time x.dumped x.computed.bits)
 
 -- the sources have a design, and this holds of it and of the text of the dump
 pub record HasDump (score : ScoreValues) (before : Outside) (P : Design → List ℕ → Type 0) : Type 0 where
@@ -118,7 +122,7 @@ IsRefusedDump score before refusal = HasDump score before (λ design text. IsDum
 
 -- the sources have a design, and no run of it shows the dump
 abbrev pub IsContradictedDump : ScoreValues → Outside → Contradiction → Type 0
-IsContradictedDump score before x = HasDump score before (λ design text. IsContradictedText design score.instance text x)
+IsContradictedDump score before x = HasDump score before (λ design text. IsContradictedText (habit_in score) design score.instance text x)
 
 -- the output holds the table of the design of the sources under the dump, and every other file is as before
 pub record IsDoneIn (score : ScoreValues) (before after : Outside) : Type 0 where
@@ -128,7 +132,7 @@ pub record IsDoneIn (score : ScoreValues) (before after : Outside) : Type 0 wher
   pub text : List ℕ
   pub has_design : HasDesign score before sources design
   pub dump_is : IsFile before score.dump dump
-  pub scores : IsScoreText design (names_of sources) dump score.instance text
+  pub scores : IsScoreText (habit_in score) design (machines_in score) (names_of sources) dump score.instance text
   pub written : Told (HasFile score.output text) before.files after.files
 
 -- what a command with these values asks for was done

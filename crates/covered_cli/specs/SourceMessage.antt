@@ -24,7 +24,6 @@ source_status fault.NoMemory = Memory
 source_status (fault.File call file) = Files
 source_status (fault.Included call path) = Files
 source_status (fault.Refused refusal) = Source
-source_status fault.NotYet = Source
 
 -- the stage, the number and the name of a fault of the lexer
 abbrev pub lex_text : LexKind → List ℕ
@@ -99,4 +98,3 @@ source_line fault.NoMemory = codes "covered: memory\n"
 source_line (fault.File call file) = codes "covered: files: " ++ call_name call ++ codes " " ++ file.now ++ codes "\n"
 source_line (fault.Included call path) = codes "covered: files: " ++ call_name call ++ codes " " ++ path ++ codes "\n"
 source_line (fault.Refused refusal) = refusal_line refusal
-source_line fault.NotYet = codes "covered: source: early 1 NotYet\n"

@@ -6,10 +6,12 @@ use crate::Status;
 use crate::contradiction::Contradiction;
 use crate::database_message::database_status;
 use crate::dump_refusal::DumpRefusal;
+use crate::points_message::points_status;
 use crate::source_message::source_status;
 use command_line::UsageFault;
 use cov_host::NoMemory;
 use database_commands::CommandFault;
+use design_points::PointFault;
 use source_design::SourceFault;
 use std::alloc::AllocError;
 use whole_files::Call;
@@ -20,8 +22,8 @@ pub(crate) enum Fault<'a> {
     Usage(UsageFault<'a>),
     /// No design was read from the sources.
     Source(SourceFault<'a>),
-    /// The design has more points than are scored.
-    TooManyPoints,
+    /// The points of the design are not listed.
+    Points(PointFault),
     /// The dump is refused.
     Dump(DumpRefusal<'a>),
     /// No run of the design shows the dump.
@@ -41,7 +43,7 @@ impl Fault<'_> {
         match self {
             Fault::Usage(_) => Status::Usage,
             Fault::Source(fault) => source_status(fault),
-            Fault::TooManyPoints => Status::Source,
+            Fault::Points(fault) => points_status(fault),
             Fault::Dump(_) => Status::Dump,
             Fault::Contradiction(_) => Status::Contradiction,
             Fault::Files { .. } => Status::Files,

@@ -20,6 +20,7 @@ mod dump_refusal;
 mod fault;
 mod message;
 mod pieces;
+mod points_message;
 mod score;
 mod score_words;
 mod source_message;

@@ -12,6 +12,7 @@ use crate::database_message::warn_database;
 use crate::dump_refusal::warn_refusal;
 use crate::fault::Fault;
 use crate::pieces::warn_texts;
+use crate::points_message::warn_points;
 use crate::source_message::warn_source;
 use command_line::UsageFault;
 use cov_host::Host;
@@ -30,22 +31,22 @@ pub(crate) fn warn_of<H: Host>(host: &mut H, fault: &Fault<'_>)
         Fault::Dump(refusal) => warn_refusal(host, refusal),
         Fault::Contradiction(found) => warn_contradiction(host, found),
         Fault::Databases(fault) => warn_database(host, fault),
-        Fault::Usage(_) | Fault::TooManyPoints | Fault::Files { .. } | Fault::Memory => {
-            warn_texts(host, &pieces_of(fault))
-        }
+        Fault::Points(fault) => warn_points(host, fault),
+        Fault::Usage(_) | Fault::Files { .. } | Fault::Memory => warn_texts(host, &pieces_of(fault)),
     }
 }
 
-/// The pieces of a fault's line in order, except one of sources, of a dump or its contradiction, or of a command over databases.
+/// The pieces of a fault's line in order, except one of sources, of points, of a dump or its contradiction, or of a command over databases.
 fn pieces_of<'a>(fault: &Fault<'a>) -> [&'a str; 5]
     ensures { IsPlain fault.now → flat_map (λ piece. piece.now) result ≡ line_of fault.now }
 {
     match fault {
         Fault::Usage(usage) => usage_pieces(usage),
-        Fault::Source(_) | Fault::Dump(_) | Fault::Contradiction(_) | Fault::Databases(_) => {
-            ["", "", "", "", ""]
-        }
-        Fault::TooManyPoints => ["covered: source: points 3 TooManyPoints\n", "", "", "", ""],
+        Fault::Source(_)
+        | Fault::Points(_)
+        | Fault::Dump(_)
+        | Fault::Contradiction(_)
+        | Fault::Databases(_) => ["", "", "", "", ""],
         Fault::Files { call, file } => file_pieces(*call, file),
         Fault::Memory => ["covered: memory\n", "", "", "", ""],
     }

@@ -1,10 +1,11 @@
-ghost use Rattle.std.specs.Prelude.{◌≡◌, ◌<◌, IfErr, IfOk, OnOk, length};
+ghost use Rattle.std.specs.Prelude.{◌≡◌, ◌<◌, All, IfErr, IfOk, List, OnOk, length};
 ghost use Rattle.command_line.specs.CommandWords.{HaveForms, score_values};
 ghost use Rattle.cov_host.specs.Outside.{HasFile, KeepsFiles, KeepsStreams, Outside, Told};
 ghost use Rattle.coverage_db.specs.Table.{IsTable};
 ghost use Rattle.coverage_db.specs.Text.{text_of};
 ghost use Rattle.design_model.specs.Design.{path_of};
 ghost use Rattle.design_model.specs.Lawful.{IsLawfulDesign};
+ghost use Rattle.design_model.specs.Points.{StateNames};
 ghost use Rattle.design_model.specs.View.{design_view};
 ghost use Rattle.design_points.specs.Counted.{AreAllPoints};
 ghost use Rattle.dump_score.specs.Faults.{IsScoreFault};
@@ -12,11 +13,12 @@ ghost use Rattle.dump_score.specs.Scoring.{IsScoreOfFile};
 ghost use Rattle.dump_score.specs.instance_paths.Rooted.{IsRooted};
 ghost use Rattle.dump_score.specs.replay_core.Fits.{IsReplayable, signal_of};
 ghost use Rattle.source_design.specs.Reading.{IsReadIn};
-ghost use Rattle.written_designs.specs.table_laws.Written.{IsWritten};
+ghost use Rattle.written_designs.specs.table_laws.Written.{IsWritten, IsWrittenMachine};
 ghost use Rattle.whole_files.specs.Effects.{CountsUp, OnlyReads};
 ghost use Rattle.covered_cli.specs.Covered.{KeepsOthers};
 ghost use Rattle.covered_cli.specs.Fault.{IsDesignFault, IsPointsFault, StandsIn, IsEarly, IsWritingFault, IsScoringFault};
 ghost use Rattle.covered_cli.specs.Refusing.{IsBindRefusal, IsReplayRefusal, NamesSignal};
+ghost use Rattle.covered_cli.specs.ScoreMachines.{habit_when};
 ghost use Rattle.covered_cli.specs.ScoreSources.{sources_in};
 ghost use Rattle.covered_cli.specs.Scoring.{IsDoneIn};
 ghost use Rattle.covered_cli.specs.declared.fault.Fault.TheVariants as fault_row;
@@ -24,13 +26,13 @@ ghost use Rattle.covered_cli.specs.declared.fault.Fault.TheVariants as fault_row
 use crate::contradiction::Contradiction;
 use crate::dump_refusal::DumpRefusal;
 use crate::fault::Fault;
-use crate::score_words::{defines_of, files_of};
+use crate::score_words::{defines_of, files_of, habit_when, states_of};
 use command_line::ScoreWords;
 use cov_host::{Host, Name, NoMemory, Sequence, Text};
 use cover_points::Points;
 use coverage_db::{Db, write_db};
 use design_model::Design;
-use design_points::{ListFault, list_points};
+use design_points::{States, list_points};
 use dump_score::{ReplayFault, ScoreFault, score_dump};
 use signal_binding::BindFault;
 use source_design::{ReadDesign, SourceWords, read_design};
@@ -54,7 +56,8 @@ pub(crate) fn run_score<'a, H: Host>(
     ensures counts { CountsUp (H.outside host.old) (H.outside host.new) }
 {
     let ReadDesign { design, sources } = design_of(alloc, host, words)?;
-    let points = points_of(alloc, &design)?;
+    let states = states_of(alloc, words.machines)?;
+    let points = points_of(alloc, &design, &states)?;
     let db = db_of(alloc, host, &design, &points, sources, words)?;
     let text = text_of(alloc, &db)?;
     write(host, words.output, &text)
@@ -84,16 +87,19 @@ fn design_of<'a, H: Host>(
     }
 }
 
-/// The points of a design, of which there are not too many.
-fn points_of<'a>(alloc: Global, design: &Design) -> Result<Box<Points>, Fault<'a>>
+/// The points of a design with these state machines.
+fn points_of<'a>(
+    alloc: Global,
+    design: &Design,
+    states: &States,
+) -> Result<Box<Points>, Fault<'a>>
     requires { IsLawfulDesign (design_view design.now) }
-    ensures points { IfOk result (λ points. AreAllPoints (design_view design.now) points.value) }
-    ensures fault { IfErr result (IsPointsFault design.now) }
+    ensures points { IfOk result (λ points. AreAllPoints (design_view design.now) states.now points.value) }
+    ensures fault { IfErr result (IsPointsFault design.now states.now) }
 {
-    match list_points(alloc, design) {
+    match list_points(alloc, design, states) {
         Ok(points) => Ok(points),
-        Err(ListFault::TooManyPoints) => Err(Fault::TooManyPoints),
-        Err(ListFault::NoMemory) => Err(Fault::Memory),
+        Err(fault) => Err(Fault::Points(fault)),
     }
 }
 
@@ -122,10 +128,12 @@ fn db_of<'a, H: Host>(
     words: &ScoreWords<'a>,
 ) -> Result<Db, Fault<'a>>
     requires replayable { IsReplayable (design_view design.now) points.now }
-    requires points { AreAllPoints (design_view design.now) points.now }
+    requires points { (machines : List StateNames) × AreAllPoints (design_view design.now) machines points.now }
+    requires named { All IsWrittenMachine points.now.machines.items }
     requires written { IsWritten sources (design_view design.now) }
     requires rooted { IsRooted (design_view design.now) }
-    ensures scored { IfOk result (IsScoreOfFile words.now.dump.now (H.outside host.old) design.now sources words.now.instance.now) }
+    ensures scored { (machines : List StateNames) → AreAllPoints (design_view design.now) machines points.now
+        → IfOk result (IsScoreOfFile words.now.dump.now (H.outside host.old) (habit_when words.now.late) design.now machines sources words.now.instance.now) }
     ensures fault { IfErr result (IsScoringFault (score_values words.now) design.now (H.outside host.old) (H.outside host.new)) }
     ensures effects { OnlyReads (H.outside host.old) (H.outside host.new) }
 {
@@ -137,6 +145,7 @@ fn db_of<'a, H: Host>(
         points,
         sources,
         words.instance,
+        habit_when(words.late),
     ) {
         Ok(db) => Ok(db),
         Err(fault) => Err(fault_of(alloc, design, words, fault)),
@@ -151,8 +160,8 @@ fn fault_of<'a>(
     fault: ScoreFault,
 ) -> Fault<'a>
     requires lawful { IsLawfulDesign (design_view design.now) }
-    requires fault { (before : Outside) × (after : Outside) × IsScoreFault words.now.dump.now before after design.now words.now.instance.now fault }
-    ensures { (before after : Outside) → IsScoreFault words.now.dump.now before after design.now words.now.instance.now fault → IsScoringFault (score_values words.now) design.now before after result }
+    requires fault { (before : Outside) × (after : Outside) × IsScoreFault words.now.dump.now before after (habit_when words.now.late) design.now words.now.instance.now fault }
+    ensures { (before after : Outside) → IsScoreFault words.now.dump.now before after (habit_when words.now.late) design.now words.now.instance.now fault → IsScoringFault (score_values words.now) design.now before after result }
 {
     match fault {
         ScoreFault::NoMemory => Fault::Memory,

@@ -21,7 +21,7 @@ pub(crate) fn source_status(fault: &SourceFault<'_>) -> Status
     match fault {
         SourceFault::NoMemory => Status::Memory,
         SourceFault::File { .. } | SourceFault::Included { .. } => Status::Files,
-        SourceFault::Refused(_) | SourceFault::NotYet => Status::Source,
+        SourceFault::Refused(_) => Status::Source,
     }
 }
 
@@ -37,9 +37,6 @@ pub(crate) fn warn_source<H: Host>(host: &mut H, fault: &SourceFault<'_>)
         SourceFault::File { call, file } => warn_file(host, call.name(), file.as_bytes()),
         SourceFault::Included { call, path } => warn_file(host, call.name(), path.as_slice()),
         SourceFault::Refused(refusal) => warn_refused(host, refusal),
-        SourceFault::NotYet => {
-            warn_pieces(host, &["covered: source: early 1 NotYet\n".as_bytes()])
-        }
     }
 }
 

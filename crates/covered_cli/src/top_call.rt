@@ -2,7 +2,7 @@ ghost use Rattle.std.specs.Prelude.{◌≡◌, ◌≢◌, ◌↔◌, IfErr, OnOk
 ghost use Rattle.cov_host.specs.Outside.{KeepsFiles, Told};
 ghost use Rattle.database_commands.specs.Reporting.{KeepsUnlessNamed, PrintsIfUnnamed};
 ghost use Rattle.whole_files.specs.Effects.{CountsUp};
-ghost use Rattle.covered_cli.specs.Complete.{EndsWith, HasBadDump, HasBadSource, HasUnboundDump, IsCommandWith, IsGoodScore, IsTooLarge, NoFaults, RefusesBinding, RefusesDump, RefusesPoints};
+ghost use Rattle.covered_cli.specs.Complete.{EndsWith, HasBadDump, HasBadSource, HasUnboundDump, IsCommandWith, IsGoodScore, LacksPoints, NoFaults, RefusesBinding, RefusesDump, RefusesPoints};
 ghost use Rattle.covered_cli.specs.Covered.{HasContradiction, HasDatabaseCause, HasEarlyStatus, HasFilesCause, HasGoodDatabases, IsNoCommand, IsSomeCommand, KeepsUnnamed, PrintsReport, WarnsFault};
 ghost use Rattle.covered_cli.specs.Fault.{HasForms, IsEarly, Stands, StandsInWork, output_of};
 ghost use Rattle.covered_cli.specs.Scoring.{IsDone, IsDoneWork};
@@ -30,19 +30,19 @@ pub fn covered<H: Host>(alloc: Global, words: &Words, host: &mut H) -> Status
     ensures unprinted { HasEarlyStatus result → (H.outside host.new).printed ≡ (H.outside host.old).printed }
 
     // With status 0 the output holds what the command asks for: of a score the table of the sources and the dump, with
-    // each coverage point once and its verdict, which holds in every run of the design that shows the dump; of a merge the
+    // each coverage point once and its verdict, which holds in every run of the design, by the habit of the words, that shows the dump; of a merge the
     // merge of the tables of the files; of a report its text, which was printed where no file is named; of `lcov` the
     // tracefile of the table of the file.
     ensures done { result ≡ Status.Done → IsDone words.now (H.outside host.old) (H.outside host.new) }
 
     // Where the files are known and no call of the host fails, their texts decide the status, want of memory aside: a dump
     // that some run shows is scored, and one that has a fault is refused, for it or for what no run shows before it. A
-    // design of too many points is refused for that, whatever the dump is, and one that the header of a dump does not
-    // bind for that, whatever the dump's body holds.
+    // design whose points with the machines of the words are too many, or that lacks one of these machines, is refused for that, whatever
+    // the dump is, and one that the header of a dump does not bind for that, whatever the dump's body holds.
     ensures complete { IsCommandWith IsGoodScore words.now (H.outside host.old) → NoFaults (H.outside host.old) (H.outside host.new) → EndsWith Status.Done result }
     ensures databases { HasGoodDatabases words.now (H.outside host.old) → NoFaults (H.outside host.old) (H.outside host.new) → EndsWith Status.Done result }
     ensures source { IsCommandWith HasBadSource words.now (H.outside host.old) → NoFaults (H.outside host.old) (H.outside host.new) → EndsWith Status.Source result }
-    ensures points { IsCommandWith IsTooLarge words.now (H.outside host.old) → NoFaults (H.outside host.old) (H.outside host.new) → RefusesPoints result (H.outside host.old) (H.outside host.new) }
+    ensures points { IsCommandWith LacksPoints words.now (H.outside host.old) → NoFaults (H.outside host.old) (H.outside host.new) → RefusesPoints words.now result (H.outside host.old) (H.outside host.new) }
     ensures unbound { IsCommandWith HasUnboundDump words.now (H.outside host.old) → NoFaults (H.outside host.old) (H.outside host.new) → RefusesBinding words.now result (H.outside host.old) (H.outside host.new) }
     ensures dump { IsCommandWith HasBadDump words.now (H.outside host.old) → NoFaults (H.outside host.old) (H.outside host.new) → RefusesDump result }
 

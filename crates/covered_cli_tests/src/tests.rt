@@ -157,8 +157,6 @@ const SOURCES: &[Case] = &[
     Case { words: SCORE_M, files: &[("m.v", "module m(input a);\n  `NONE\nendmodule\n"), ("D", DUMP)], status: Status::Source, output: NONE, printed: "", warned: "covered: source: lex 6 UnknownMacro NONE at m.v:2:3\n" },
     Case { words: SCORE_M, files: &[("m.v", "module m(input a);\n  assign #1 b = a;\nendmodule\n"), ("D", DUMP)], status: Status::Source, output: NONE, printed: "", warned: "covered: source: parse 4 LeftOut delay at m.v:2:10\n" },
     Case { words: SCORE_M, files: &[("m.v", "module m(input a);\n"), ("D", DUMP)], status: Status::Source, output: NONE, printed: "", warned: "covered: source: parse 2 EarlyEnd\n" },
-    Case { words: SCORE_M, files: &[("m.v", "module m(input a, output reg b);\n  reg c [0:1];\n  always @(posedge a) b <= c[0];\nendmodule\n"), ("D", DUMP)], status: Status::Source, output: NONE, printed: "", warned: "covered: source: early 1 NotYet\n" },
-    Case { words: SCORE_M, files: &[("m.v", "module m(input a);\n  reg b [0:1];\nendmodule\n"), ("D", DUMP)], status: Status::Source, output: NONE, printed: "", warned: "covered: source: early 1 NotYet\n" },
     // modules that are refused
     Case { words: SCORE_M, files: &[("m.v", "module m(input a);\n  wire [a:0] b;\nendmodule\n"), ("D", DUMP)], status: Status::Source, output: NONE, printed: "", warned: "covered: source: const 1 NotConstant at m.v:2:9\n" },
     Case { words: SCORE_M, files: &[("m.v", "module m(input a);\n  sub u(a);\nendmodule\n"), ("D", DUMP)], status: Status::Source, output: NONE, printed: "", warned: "covered: source: elab 1 NoModule sub at m.v:2:3\n" },

@@ -6,7 +6,6 @@ use four_state::Four;
 use std::alloc::Global;
 
 /// A design after elaboration, without hierarchy.
-#[derive(Drop)]
 pub struct Design {
     /// The name of the top module.
     pub top: Name,
@@ -22,6 +21,21 @@ pub struct Design {
     pub constants: Sequence<Constant>,
     /// The ports that go by the signal they are joined to.
     pub aliases: Sequence<Alias>,
+}
+
+// Written out so that a crate which lets one go does not prove again how each of its parts is let go.
+impl Drop for Design {
+    fn drop(self) {
+        let Design {
+            top: _,
+            instances: _,
+            signals: _,
+            memories: _,
+            processes: _,
+            constants: _,
+            aliases: _,
+        } = self;
+    }
 }
 
 impl Design {

@@ -143,7 +143,7 @@ pub enum Process {
     Comb {
         /// The number of its instance.
         instance: u32,
-        /// The numbers of the signals of its list of names; there are none for `@*`.
+        /// The numbers of the signals of its list of names; for `@*`, of those that its text reads (IEEE 1364-2001, 9.7.5).
         wakes: Sequence<u32>,
         /// Its statement.
         body: Stmt,

@@ -1,19 +1,11 @@
 -- Two lists of the points of a design are equally long.
 use Rattle.std.proofs.Common.{◌≡◌, ◌⊎◌, ℕ, suc, ◌<◌, ◌≤◌, List, [], ◌∷◌, length, get_or, inl, inr, refl, sym, ap, subst, ◌∙◌, arith}
 use Rattle.std.proofs.lemmas.List.{get_or_default}
-use Rattle.cover_points.specs.Faults.{IsPointFault}
 use Rattle.cover_points.specs.Listed.{IsPointList, points_of}
 use Rattle.cover_points.specs.Visits.{no_point}
-use Rattle.cover_points.specs.declared.fault.PointFault.{PointFault}
-use Rattle.cover_points.specs.declared.fault.PointFault.TheVariants as fault
 use Rattle.cover_points.specs.declared.listing.Points.{Points}
 use Rattle.cover_points.proofs.Apart.{points_once}
 use Rattle.cover_points.proofs.Members.{in_contains}
-use Rattle.cover_points.specs.design_machines.Faults.{IsStateFault}
-use Rattle.cover_points.specs.design_machines.Machines.{AreMachines}
-use Rattle.cover_points.specs.design_machines.declared.fault.StateFault.{StateFault}
-use Rattle.cover_points.specs.design_machines.declared.fault.StateFault.TheVariants as of_machines
-use Rattle.cover_points.specs.design_machines.declared.machine.Machine.{Machine}
 use Rattle.design_model.specs.Design.{AreDistinct, Design, In}
 use Rattle.design_model.specs.Points.{StateNames}
 use Rattle.design_points.specs.Counted.{HasFewPoints, HasManyPoints}
@@ -62,27 +54,5 @@ distinct d (x ∷ xs) once = (
 pub no_longer : (d : Design) (ms : List StateNames) (ps qs : Points) → IsPointList d ms ps → IsPointList d ms qs → length (points_of ps) ≤ length (points_of qs)
 no_longer d ms ps qs a b = fits (points_of ps) (points_of qs) (distinct no_point (points_of ps) (points_once d ms ps a)) (λ x i. (b.members x).1 ((a.members x).0 i))
 
-pub few_or_many : (d : Design) → HasFewPoints d → HasManyPoints d → ⊥
-few_or_many d (ps, a, few) (qs, b, many) = omega (arith, few, many, no_longer d [] qs ps b a)
-
--- where no machine is named there is none, and no fault of one
-pub no_machines : (d : Design) (xs : List Machine) → AreMachines d [] xs → xs ≡ []
-no_machines d [] are = refl
-no_machines d (x ∷ xs) are = let m = are.each x (inl refl) in absurd m.1
-
-no_state_fault : (d : Design) (f : StateFault) → IsStateFault d [] f → ⊥
-no_state_fault d f is = omega (arith, is.1)
-
-module _ (d : Design) (machines : List StateNames) (f : PointFault) (name : List ℕ) (none : machines ≡ []) (is : IsPointFault d machines f) where
-  pub no_unknown_state : f ≡ fault.NoState name → ⊥
-  no_unknown_state e = no_state_fault d (of_machines.NoState name) (subst (λ ms. IsPointFault d ms (fault.NoState name)) none (subst (IsPointFault d machines) e is))
-
-  pub no_same_state : f ≡ fault.SameState name → ⊥
-  no_same_state e = no_state_fault d (of_machines.SameState name) (subst (λ ms. IsPointFault d ms (fault.SameState name)) none (subst (IsPointFault d machines) e is))
-
-  pub no_state_count : f ≡ fault.TooManyStates name → ⊥
-  no_state_count e = no_state_fault d (of_machines.TooManyStates name) (subst (λ ms. IsPointFault d ms (fault.TooManyStates name)) none (subst (IsPointFault d machines) e is))
-
--- more points than may be
-pub many_points : (d : Design) (machines : List StateNames) (f : PointFault) → machines ≡ [] → IsPointFault d machines f → f ≡ fault.TooManyPoints → HasManyPoints d
-many_points d machines f none is e = subst (λ ms. IsPointFault d ms fault.TooManyPoints) none (subst (IsPointFault d machines) e is)
+pub few_or_many : (d : Design) (ms : List StateNames) → HasFewPoints d ms → HasManyPoints d ms → ⊥
+few_or_many d ms (ps, a, few) (qs, b, many) = omega (arith, few, many, no_longer d ms qs ps b a)

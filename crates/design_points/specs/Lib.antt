@@ -1,1 +1,2 @@
 pub mod Counted
+pub use Rattle.cover_points.specs as cover_points

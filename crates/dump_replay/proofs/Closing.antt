@@ -7,7 +7,7 @@ use Rattle.known_state.specs.Partly.{Partly}
 use Rattle.cover_points.specs.declared.listing.Points.{Points}
 use Rattle.design_model.specs.Shows.{BoundDump, IsFirst, IsShown}
 use Rattle.design_model.specs.declared.design.Design.{Design}
-use Rattle.event_machine.specs.Habit.{Free as free}
+use Rattle.event_machine.specs.Habit.{Habit}
 use Rattle.vcd_reader.specs.Times.{Rises, last_time}
 use Rattle.vcd_reader.specs.declared.entry.Entry.{Entry}
 use Rattle.vcd_reader.specs.declared.entry.Entry.TheVariants.{Time}
@@ -45,8 +45,8 @@ new_or_started p new started = let no_phase : New ≡ Started = sym new ∙ star
 later_next : (entries more : List Entry) (last next : ℕ) → Rises None (entries ++ Time next ∷ more) → last_time None entries ≡ Some last → last < next
 later_next entries more last next rises is_last = (subst (λ o. Rises o (Time next ∷ more)) is_last (rises_front None entries (Time next ∷ more) rises).1).0
 
-module _ (x : DumpReplay) (design : Design) (points : Points) (vars : List Var) (instance : List ℕ) (entries more : List Entry) (last next : ℕ)
-    (are : AreEntries vars entries) (rises : Rises None (entries ++ Time next ∷ more)) (is_last : last_time None entries ≡ Some last) (f : HasFollowed x design points vars instance entries) where
+module _ (x : DumpReplay) (habit : Habit) (design : Design) (points : Points) (vars : List Var) (instance : List ℕ) (entries more : List Entry) (last next : ℕ)
+    (are : AreEntries vars entries) (rises : Rises None (entries ++ Time next ∷ more)) (is_last : last_time None entries ≡ Some last) (f : HasFollowed x habit design points vars instance entries) where
   abbrev codes : List (Option ℕ)
   codes = codes_of design vars instance
 
@@ -103,34 +103,34 @@ module _ (x : DumpReplay) (y : Replay) (time : ℕ) where
   -- the first step was closed
   pub first_closed : IsNew x.replay → IsReady y → IsStarted y → made_of y ≡ made_of x.replay → given_of y ≡ given_of x.replay
       → ((dump : BoundDump) → IsDumpFor (made_of x.replay) dump → IsFirst dump time → IsShown dump time → AreGivenAt x.replay dump time → Follows y dump time)
-      → (design : Design) (points : Points) (vars : List Var) (instance : List ℕ) (entries more : List Entry) (next : ℕ) → AreEntries vars entries → Rises None (entries ++ Time next ∷ more) → last_time None entries ≡ Some time
-      → HasFollowed x design points vars instance entries → Follows y (dump_with (codes_of design vars instance) entries next more) time
-  first_closed new ready started made given closed design points vars instance entries more next are rises is_last f =
+      → (habit : Habit) (design : Design) (points : Points) (vars : List Var) (instance : List ℕ) (entries more : List Entry) (next : ℕ) → AreEntries vars entries → Rises None (entries ++ Time next ∷ more) → last_time None entries ≡ Some time
+      → HasFollowed x habit design points vars instance entries → Follows y (dump_with (codes_of design vars instance) entries next more) time
+  first_closed new ready started made given closed habit design points vars instance entries more next are rises is_last f =
       let own : HaveValues (made_of y).codes (given_of y) = ready.begun started in
       let have : HaveValues (made_of x.replay).codes (given_of x.replay) = subst (λ m. HaveValues m.codes (given_of x.replay)) made (subst (λ g. HaveValues (made_of y).codes g) given own) in
-      let first = is_first x design points vars instance entries more time next are rises is_last f new in
-      closed (dump_with (codes_of design vars instance) entries next more) (dump_for x design points vars instance entries more time next are rises is_last f) first.0 first.1 (given_there x design points vars instance entries more time next are rises is_last f have)
+      let first = is_first x habit design points vars instance entries more time next are rises is_last f new in
+      closed (dump_with (codes_of design vars instance) entries next more) (dump_for x habit design points vars instance entries more time next are rises is_last f) first.0 first.1 (given_there x habit design points vars instance entries more time next are rises is_last f have)
 
   -- a later step was closed
   pub later_closed : (IsNew x.replay → ⊥)
       → ((dump : BoundDump) (t : ℕ) → Follows x.replay dump t → IsNextStep dump t time → AreGivenAt x.replay dump time → Follows y dump time)
-      → (design : Design) (points : Points) (vars : List Var) (instance : List ℕ) (entries more : List Entry) (next : ℕ) → AreEntries vars entries → Rises None (entries ++ Time next ∷ more) → last_time None entries ≡ Some time
-      → HasFollowed x design points vars instance entries → Follows y (dump_with (codes_of design vars instance) entries next more) time
-  later_closed begun closed design points vars instance entries more next are rises is_last f =
-      closed (dump_with (codes_of design vars instance) entries next more) (earlier_time x design points vars instance entries more time next are rises is_last f begun).0
-      (followed_before x design points vars instance entries more time next are rises is_last f begun) (next_step x design points vars instance entries more time next are rises is_last f begun)
-      (given_there x design points vars instance entries more time next are rises is_last f (have_values x design points vars instance entries more time next are rises is_last f begun))
+      → (habit : Habit) (design : Design) (points : Points) (vars : List Var) (instance : List ℕ) (entries more : List Entry) (next : ℕ) → AreEntries vars entries → Rises None (entries ++ Time next ∷ more) → last_time None entries ≡ Some time
+      → HasFollowed x habit design points vars instance entries → Follows y (dump_with (codes_of design vars instance) entries next more) time
+  later_closed begun closed habit design points vars instance entries more next are rises is_last f =
+      closed (dump_with (codes_of design vars instance) entries next more) (earlier_time x habit design points vars instance entries more time next are rises is_last f begun).0
+      (followed_before x habit design points vars instance entries more time next are rises is_last f begun) (next_step x habit design points vars instance entries more time next are rises is_last f begun)
+      (given_there x habit design points vars instance entries more time next are rises is_last f (have_values x habit design points vars instance entries more time next are rises is_last f begun))
 
 -- what a contradiction of the dump of the entries says of them
-refuted_entries : (x : DumpReplay) (design : Design) (points : Points) (vars : List Var) (instance : List ℕ) (entries : List Entry) (time next s end : ℕ) (dumped : Vector) (computed : Partly) → last_time None entries ≡ Some time
-    → IsReplayOf x design points vars instance → s < length (made_of x.replay).design.signals → (end ≡ time) × IsRefuted (made_of x.replay).design (habit_of (made_of x.replay).habit) (dump_with (codes_of design vars instance) entries next []) time s dumped computed.bits
-    → IsContradicted design vars instance (entries ++ Time next ∷ []) s end dumped computed.bits
-refuted_entries x design points vars instance entries time next s end dumped computed is_last of listed (same, is) =
-    subst (λ t. IsContradicted design vars instance (entries ++ Time next ∷ []) s t dumped computed.bits) (sym same) (record {
+refuted_entries : (x : DumpReplay) (habit : Habit) (design : Design) (points : Points) (vars : List Var) (instance : List ℕ) (entries : List Entry) (time next s end : ℕ) (dumped : Vector) (computed : Partly) → last_time None entries ≡ Some time
+    → IsReplayOf x habit design points vars instance → s < length (made_of x.replay).design.signals → (end ≡ time) × IsRefuted (made_of x.replay).design (habit_of (made_of x.replay).habit) (dump_with (codes_of design vars instance) entries next []) time s dumped computed.bits
+    → IsContradicted habit design vars instance (entries ++ Time next ∷ []) s end dumped computed.bits
+refuted_entries x habit design points vars instance entries time next s end dumped computed is_last of listed (same, is) =
+    subst (λ t. IsContradicted habit design vars instance (entries ++ Time next ∷ []) s t dumped computed.bits) (sym same) (record {
       bindable = of.bindable;
       ends = record { front = entries; next = next; are = refl; last = is_last };
       listed = subst (λ d. s < length d.signals) of.design_is listed;
-      refuted = subst (λ d. IsRefuted d free (dump_with (codes_of design vars instance) entries next []) time s dumped computed.bits) of.design_is (subst (λ h. IsRefuted (made_of x.replay).design (habit_of h) (dump_with (codes_of design vars instance) entries next []) time s dumped computed.bits) of.habit_is is);
+      refuted = subst (λ d. IsRefuted d habit (dump_with (codes_of design vars instance) entries next []) time s dumped computed.bits) of.design_is (subst (λ h. IsRefuted (made_of x.replay).design h (dump_with (codes_of design vars instance) entries next []) time s dumped computed.bits) of.habit_is is);
     })
 
 module _ {T : Type 0} (x : DumpReplay) (result : Result T ReplayFault) (time : ℕ) where
@@ -139,45 +139,45 @@ module _ {T : Type 0} (x : DumpReplay) (result : Result T ReplayFault) (time : �
       → ((s t : ℕ) (dumped : Vector) (computed : Partly) → IsNew x.replay → result ≡ Err (fault.Contradiction s t dumped computed) → HaveValues (made_of x.replay).codes (given_of x.replay))
       → IfErr result (λ f. (dump : BoundDump) → IsNew x.replay → IsDumpFor (made_of x.replay) dump → IsFirst dump time → IsShown dump time → AreGivenAt x.replay dump time → IsContradiction (made_of x.replay).design (habit_of (made_of x.replay).habit) dump time f)
       → IfErr result (λ f. signal_of f < length (made_of x.replay).design.signals)
-      → IfErr result (λ g. (design : Design) (points : Points) (vars : List Var) (instance : List ℕ) (entries : List Entry) (next : ℕ) → AreEntries vars entries → Rises None (entries ++ Time next ∷ []) → last_time None entries ≡ Some time
-      → HasFollowed x design points vars instance entries → IsReplayFault design vars instance (entries ++ Time next ∷ []) g)
+      → IfErr result (λ g. (habit : Habit) (design : Design) (points : Points) (vars : List Var) (instance : List ℕ) (entries : List Entry) (next : ℕ) → AreEntries vars entries → Rises None (entries ++ Time next ∷ []) → last_time None entries ≡ Some time
+      → HasFollowed x habit design points vars instance entries → IsReplayFault habit design vars instance (entries ++ Time next ∷ []) g)
   first_refused new missing valued contradiction named = go result refl contradiction named
     where
       go : (r : Result T ReplayFault) → result ≡ r → IfErr r (λ f. (dump : BoundDump) → IsNew x.replay → IsDumpFor (made_of x.replay) dump → IsFirst dump time → IsShown dump time → AreGivenAt x.replay dump time → IsContradiction (made_of x.replay).design (habit_of (made_of x.replay).habit) dump time f)
           → IfErr r (λ f. signal_of f < length (made_of x.replay).design.signals)
-          → IfErr r (λ g. (design : Design) (points : Points) (vars : List Var) (instance : List ℕ) (entries : List Entry) (next : ℕ) → AreEntries vars entries → Rises None (entries ++ Time next ∷ []) → last_time None entries ≡ Some time
-          → HasFollowed x design points vars instance entries → IsReplayFault design vars instance (entries ++ Time next ∷ []) g)
+          → IfErr r (λ g. (habit : Habit) (design : Design) (points : Points) (vars : List Var) (instance : List ℕ) (entries : List Entry) (next : ℕ) → AreEntries vars entries → Rises None (entries ++ Time next ∷ []) → last_time None entries ≡ Some time
+          → HasFollowed x habit design points vars instance entries → IsReplayFault habit design vars instance (entries ++ Time next ∷ []) g)
       go (Ok value) is c n = tt
-      go (Err (fault.NoBaseline s)) is c n = λ design points vars instance entries next are rises is_last f.
-          no_baseline design vars instance entries time next (made_of x.replay).codes (given_of x.replay) s f.of.codes f.of.bindable (only_time x design points vars instance entries [] time next are rises is_last f new) f.taken.given (missing s new is)
-      go (Err (fault.Contradiction s end dumped computed)) is c n = λ design points vars instance entries next are rises is_last f.
-          let first = is_first x design points vars instance entries [] time next are rises is_last f new in
-          refuted_entries x design points vars instance entries time next s end dumped computed is_last f.of n
-          (c (dump_with (codes_of design vars instance) entries next []) new (dump_for x design points vars instance entries [] time next are rises is_last f) first.0 first.1
-          (given_there x design points vars instance entries [] time next are rises is_last f (valued s end dumped computed new is)))
+      go (Err (fault.NoBaseline s)) is c n = λ habit design points vars instance entries next are rises is_last f.
+          no_baseline design vars instance entries time next (made_of x.replay).codes (given_of x.replay) s f.of.codes f.of.bindable (only_time x habit design points vars instance entries [] time next are rises is_last f new) f.taken.given (missing s new is)
+      go (Err (fault.Contradiction s end dumped computed)) is c n = λ habit design points vars instance entries next are rises is_last f.
+          let first = is_first x habit design points vars instance entries [] time next are rises is_last f new in
+          refuted_entries x habit design points vars instance entries time next s end dumped computed is_last f.of n
+          (c (dump_with (codes_of design vars instance) entries next []) new (dump_for x habit design points vars instance entries [] time next are rises is_last f) first.0 first.1
+          (given_there x habit design points vars instance entries [] time next are rises is_last f (valued s end dumped computed new is)))
 
   -- a later step was refused
   pub later_refused : (IsNew x.replay → ⊥)
       → IfErr result (λ f. (dump : BoundDump) (t : ℕ) → Follows x.replay dump t → IsNextStep dump t time → AreGivenAt x.replay dump time → IsContradiction (made_of x.replay).design (habit_of (made_of x.replay).habit) dump time f)
       → IfErr result (λ f. signal_of f < length (made_of x.replay).design.signals)
-      → IfErr result (λ g. (design : Design) (points : Points) (vars : List Var) (instance : List ℕ) (entries : List Entry) (next : ℕ) → AreEntries vars entries → Rises None (entries ++ Time next ∷ []) → last_time None entries ≡ Some time
-      → HasFollowed x design points vars instance entries → IsReplayFault design vars instance (entries ++ Time next ∷ []) g)
+      → IfErr result (λ g. (habit : Habit) (design : Design) (points : Points) (vars : List Var) (instance : List ℕ) (entries : List Entry) (next : ℕ) → AreEntries vars entries → Rises None (entries ++ Time next ∷ []) → last_time None entries ≡ Some time
+      → HasFollowed x habit design points vars instance entries → IsReplayFault habit design vars instance (entries ++ Time next ∷ []) g)
   later_refused begun contradiction named = go result contradiction named
     where
       go : (r : Result T ReplayFault) → IfErr r (λ f. (dump : BoundDump) (t : ℕ) → Follows x.replay dump t → IsNextStep dump t time → AreGivenAt x.replay dump time → IsContradiction (made_of x.replay).design (habit_of (made_of x.replay).habit) dump time f)
           → IfErr r (λ f. signal_of f < length (made_of x.replay).design.signals)
-          → IfErr r (λ g. (design : Design) (points : Points) (vars : List Var) (instance : List ℕ) (entries : List Entry) (next : ℕ) → AreEntries vars entries → Rises None (entries ++ Time next ∷ []) → last_time None entries ≡ Some time
-          → HasFollowed x design points vars instance entries → IsReplayFault design vars instance (entries ++ Time next ∷ []) g)
+          → IfErr r (λ g. (habit : Habit) (design : Design) (points : Points) (vars : List Var) (instance : List ℕ) (entries : List Entry) (next : ℕ) → AreEntries vars entries → Rises None (entries ++ Time next ∷ []) → last_time None entries ≡ Some time
+          → HasFollowed x habit design points vars instance entries → IsReplayFault habit design vars instance (entries ++ Time next ∷ []) g)
       go (Ok value) c n = tt
-      go (Err (fault.NoBaseline s)) c n = λ design points vars instance entries next are rises is_last f.
-          absurd (c (dump_with (codes_of design vars instance) entries next []) (earlier_time x design points vars instance entries [] time next are rises is_last f begun).0
-          (followed_before x design points vars instance entries [] time next are rises is_last f begun) (next_step x design points vars instance entries [] time next are rises is_last f begun)
-          (given_there x design points vars instance entries [] time next are rises is_last f (have_values x design points vars instance entries [] time next are rises is_last f begun)))
-      go (Err (fault.Contradiction s end dumped computed)) c n = λ design points vars instance entries next are rises is_last f.
-          refuted_entries x design points vars instance entries time next s end dumped computed is_last f.of n
-          (c (dump_with (codes_of design vars instance) entries next []) (earlier_time x design points vars instance entries [] time next are rises is_last f begun).0
-          (followed_before x design points vars instance entries [] time next are rises is_last f begun) (next_step x design points vars instance entries [] time next are rises is_last f begun)
-          (given_there x design points vars instance entries [] time next are rises is_last f (have_values x design points vars instance entries [] time next are rises is_last f begun)))
+      go (Err (fault.NoBaseline s)) c n = λ habit design points vars instance entries next are rises is_last f.
+          absurd (c (dump_with (codes_of design vars instance) entries next []) (earlier_time x habit design points vars instance entries [] time next are rises is_last f begun).0
+          (followed_before x habit design points vars instance entries [] time next are rises is_last f begun) (next_step x habit design points vars instance entries [] time next are rises is_last f begun)
+          (given_there x habit design points vars instance entries [] time next are rises is_last f (have_values x habit design points vars instance entries [] time next are rises is_last f begun)))
+      go (Err (fault.Contradiction s end dumped computed)) c n = λ habit design points vars instance entries next are rises is_last f.
+          refuted_entries x habit design points vars instance entries time next s end dumped computed is_last f.of n
+          (c (dump_with (codes_of design vars instance) entries next []) (earlier_time x habit design points vars instance entries [] time next are rises is_last f begun).0
+          (followed_before x habit design points vars instance entries [] time next are rises is_last f begun) (next_step x habit design points vars instance entries [] time next are rises is_last f begun)
+          (given_there x habit design points vars instance entries [] time next are rises is_last f (have_values x habit design points vars instance entries [] time next are rises is_last f begun)))
 
 -- ---- what a result says once it is known
 

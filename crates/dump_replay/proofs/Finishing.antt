@@ -7,7 +7,7 @@ use Rattle.design_model.specs.Design.{In}
 use Rattle.design_model.specs.Shows.{BoundDump, IsShownOf, IsWindowOf}
 use Rattle.design_model.specs.View.{design_view}
 use Rattle.design_model.specs.declared.design.Design.{Design}
-use Rattle.event_machine.specs.Habit.{Free as free}
+use Rattle.event_machine.specs.Habit.{Habit}
 use Rattle.replay_core.specs.mark_laws.Marked.{AreVerdicts}
 use Rattle.replay_core.specs.Followed.{AreFinal}
 use Rattle.replay_core.specs.Parts.{IsNew, made_of}
@@ -28,8 +28,8 @@ use Rattle.dump_replay.proofs.Ends.{last_step, never_shown, no_window}
 use Rattle.dump_replay.proofs.More.{last_cases, no_times}
 
 module _ (x : DumpReplay) (marks : Marks) (of : AreMarksOf (made_of x.replay).points marks) (followed : (dump : BoundDump) (t : ℕ) → Follows x.replay dump t → IsLastStep dump t → AreFinal (made_of x.replay) dump marks)
-    (silent : IsNew x.replay → AreVerdicts (made_of x.replay).design (made_of x.replay).points [] marks.verdicts) (design : Design) (points : Points) (vars : List Var) (instance : List ℕ) (entries : List Entry) (rises : Rises None entries)
-    (f : HasFollowed x design points vars instance entries) where
+    (silent : IsNew x.replay → AreVerdicts (made_of x.replay).design (made_of x.replay).points [] marks.verdicts) (habit : Habit) (design : Design) (points : Points) (vars : List Var) (instance : List ℕ) (entries : List Entry) (rises : Rises None entries)
+    (f : HasFollowed x habit design points vars instance entries) where
   abbrev the_dump : BoundDump
   the_dump = dump_of (codes_of design vars instance) (steps_of entries)
 
@@ -37,18 +37,18 @@ module _ (x : DumpReplay) (marks : Marks) (of : AreMarksOf (made_of x.replay).po
   marks_of = subst (λ ps. AreMarksOf ps marks) f.of.points_are of
 
   -- with fewer than two times no step was closed
-  none_closed : length (times_in entries) ≤ 1 → AreFinalMarks (design_view design) free the_dump points marks
+  none_closed : length (times_in entries) ≤ 1 → AreFinalMarks (design_view design) habit the_dump points marks
   none_closed few =
       let verdicts : AreVerdicts (design_view design) points [] marks.verdicts =
       subst (λ d. AreVerdicts d points [] marks.verdicts) f.of.design_is (subst (λ ps. AreVerdicts (made_of x.replay).design ps [] marks.verdicts) f.of.points_are (silent (f.taken.new few))) in
       record {
         of = marks_of;
-        scored = unmarked (design_view design) free the_dump points marks.verdicts (λ t window. no_window (times_in entries) few t (subst (λ ts. IsWindowOf ts t) (times_are entries) window)) verdicts;
+        scored = unmarked (design_view design) habit the_dump points marks.verdicts (λ t window. no_window (times_in entries) few t (subst (λ ts. IsWindowOf ts t) (times_are entries) window)) verdicts;
         forced = λ t s bits is. absurd (never_shown (times_in entries) few t (subst (λ ts. IsShownOf ts t) (times_are entries) is.is_shown));
       }
 
   -- else the last step of the window was
-  last_closed : (before last : ℕ) → EndsIn (times_in entries) before last → AreFinalMarks (design_view design) free the_dump points marks
+  last_closed : (before last : ℕ) → EndsIn (times_in entries) before last → AreFinalMarks (design_view design) habit the_dump points marks
   last_closed before last ends =
       let all : entries ++ [] ≡ entries = append-nil entries in
       let follows : Follows x.replay the_dump before = subst (λ es. Follows x.replay (dump_of (codes_of design vars instance) (steps_of es)) before) all (f.taken.follows before last ends [] (subst (Rises None) (sym all) rises)) in
@@ -57,12 +57,12 @@ module _ (x : DumpReplay) (marks : Marks) (of : AreMarksOf (made_of x.replay).po
       let final : AreFinal (made_of x.replay) the_dump marks = followed the_dump before follows is_last in
       let here : AreFinalMarks (made_of x.replay).design (habit_of (made_of x.replay).habit) the_dump (made_of x.replay).points marks =
       record { of = final.points; scored = record { replay = final.replay; verdicts = final.verdicts; sound = final.sound; reasoned = final.reasoned }; forced = final.forced } in
-      let there = subst (λ h. AreFinalMarks (made_of x.replay).design (habit_of h) the_dump (made_of x.replay).points marks) f.of.habit_is here in
-      subst (λ d. AreFinalMarks d free the_dump points marks) f.of.design_is (subst (λ ps. AreFinalMarks (made_of x.replay).design free the_dump ps marks) f.of.points_are there)
+      let there = subst (λ h. AreFinalMarks (made_of x.replay).design h the_dump (made_of x.replay).points marks) f.of.habit_is here in
+      subst (λ d. AreFinalMarks d habit the_dump points marks) f.of.design_is (subst (λ ps. AreFinalMarks (made_of x.replay).design habit the_dump ps marks) f.of.points_are there)
 
-  pub final_marks : AreFinalMarks (design_view design) free the_dump points marks
+  pub final_marks : AreFinalMarks (design_view design) habit the_dump points marks
   final_marks = go (last_time None entries) refl
     where
-      go : (o : Option ℕ) → last_time None entries ≡ o → AreFinalMarks (design_view design) free the_dump points marks
+      go : (o : Option ℕ) → last_time None entries ≡ o → AreFinalMarks (design_view design) habit the_dump points marks
       go None e = none_closed (omega (arith, ap length (no_times entries e)))
       go (Some last) e = elim (last_cases entries last e) [ inl one ↦ none_closed (omega (arith, ap length one)) | inr (before, ends) ↦ last_closed before last ends ]

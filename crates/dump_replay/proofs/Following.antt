@@ -8,6 +8,7 @@ use Rattle.std.proofs.lemmas.List.{get_or-set_other, get_or-set_same, length-set
 use Rattle.std.proofs.lemmas.List.Elements.{All-head, All-tail}
 use Rattle.cover_points.specs.declared.listing.Points.{Points}
 use Rattle.design_model.specs.declared.design.Design.{Design}
+use Rattle.event_machine.specs.Habit.{Habit}
 use Rattle.four_state.specs.Vector.{Vector}
 use Rattle.design_model.specs.Shows.{BoundDump}
 use Rattle.vcd_reader.proofs.RisingTimes.{last_time_append}
@@ -21,6 +22,7 @@ use Rattle.bound_codes.specs.Codes.{AreWanted}
 use Rattle.replay_core.specs.Made.{Made}
 use Rattle.replay_core.specs.Fits.{HaveValues}
 use Rattle.replay_core.specs.Parts.{IsNew, IsReady, IsStarted, given_of, made_of, without_sign}
+use Rattle.replay_core.specs.wake_laws.Laws.{habit_of}
 use Rattle.signal_binding.specs.Binding.{codes_of}
 use Rattle.entry_laws.specs.Entries.{AreEntries}
 use Rattle.shown_dumps.specs.Laws.{dump_with}
@@ -38,13 +40,13 @@ apart a b e f =
     false≢true (sym e ∙ same)
 
 -- the same replay by other fields
-pub of_again : (x y : DumpReplay) (design : Design) (points : Points) (vars : List Var) (instance : List ℕ) → IsReady y.replay → made_of y.replay ≡ made_of x.replay → length (given_of y.replay) ≡ length (given_of x.replay) → y.wanted ≡ x.wanted
-    → IsReplayOf x design points vars instance → IsReplayOf y design points vars instance
-of_again x y design points vars instance ready made long wanted of = record {
+pub of_again : (x y : DumpReplay) (habit : Habit) (design : Design) (points : Points) (vars : List Var) (instance : List ℕ) → IsReady y.replay → made_of y.replay ≡ made_of x.replay → length (given_of y.replay) ≡ length (given_of x.replay) → y.wanted ≡ x.wanted
+    → IsReplayOf x habit design points vars instance → IsReplayOf y habit design points vars instance
+of_again x y habit design points vars instance ready made long wanted of = record {
   ready = ready;
   bindable = of.bindable;
   design_is = ap (λ (m : Made). m.design) made ∙ of.design_is;
-  habit_is = ap (λ (m : Made). m.habit) made ∙ of.habit_is;
+  habit_is = ap (λ (m : Made). habit_of m.habit) made ∙ of.habit_is;
   points_are = ap (λ (m : Made). m.points) made ∙ of.points_are;
   codes = ap (λ (m : Made). m.codes) made ∙ of.codes;
   within = λ code coded. omega (arith, of.within code coded, long);
@@ -55,9 +57,9 @@ last_value_entry : (entries : List Entry) (code : ℕ) (value : Vector) → last
 last_value_entry entries code value = last_time_append None entries (Value code value ∷ [])
 
 -- a change of a code that no signal has
-passed_one : (x : DumpReplay) (design : Design) (points : Points) (vars : List Var) (instance : List ℕ) (entries : List Entry) (code : ℕ) (value : Vector) → is_wanted x.wanted.items code ≡ false → HasFollowed x design points vars instance entries
-    → HasFollowed x design points vars instance (entries ++ Value code value ∷ [])
-passed_one x design points vars instance entries code value unwanted f =
+passed_one : (x : DumpReplay) (habit : Habit) (design : Design) (points : Points) (vars : List Var) (instance : List ℕ) (entries : List Entry) (code : ℕ) (value : Vector) → is_wanted x.wanted.items code ≡ false → HasFollowed x habit design points vars instance entries
+    → HasFollowed x habit design points vars instance (entries ++ Value code value ∷ [])
+passed_one x habit design points vars instance entries code value unwanted f =
     let none : (s : ℕ) → code_at (codes_of design vars instance) s ≡ Some code → ⊥ = λ s bound. false≢true (sym unwanted ∙ (f.of.wanted code).1 (s, bound)) in
     record {
       of = f.of;
@@ -66,23 +68,23 @@ passed_one x design points vars instance entries code value unwanted f =
           (λ dump t h. h) (λ h. h) (λ s bound. absurd (none s bound)) (λ other e. refl) f.taken;
     }
 
-pub passed_all : (x : DumpReplay) (design : Design) (points : Points) (vars : List Var) (instance : List ℕ) (passed entries : List Entry) → All (IsUnwanted x.wanted.items) passed → HasFollowed x design points vars instance entries
-    → HasFollowed x design points vars instance (entries ++ passed)
-passed_all x design points vars instance [] entries unwanted f = subst (HasFollowed x design points vars instance) (sym (append-nil entries)) f
-passed_all x design points vars instance (Time time ∷ passed) entries unwanted f = absurd (All-head (IsUnwanted x.wanted.items) (Time time) passed unwanted)
-passed_all x design points vars instance (Value code value ∷ passed) entries unwanted f =
-    let next = passed_one x design points vars instance entries code value (All-head (IsUnwanted x.wanted.items) (Value code value) passed unwanted) f in
-    subst (HasFollowed x design points vars instance) (append_assoc entries (Value code value ∷ []) passed)
-    (passed_all x design points vars instance passed (entries ++ Value code value ∷ []) (All-tail (IsUnwanted x.wanted.items) (Value code value) passed unwanted) next)
+pub passed_all : (x : DumpReplay) (habit : Habit) (design : Design) (points : Points) (vars : List Var) (instance : List ℕ) (passed entries : List Entry) → All (IsUnwanted x.wanted.items) passed → HasFollowed x habit design points vars instance entries
+    → HasFollowed x habit design points vars instance (entries ++ passed)
+passed_all x habit design points vars instance [] entries unwanted f = subst (HasFollowed x habit design points vars instance) (sym (append-nil entries)) f
+passed_all x habit design points vars instance (Time time ∷ passed) entries unwanted f = absurd (All-head (IsUnwanted x.wanted.items) (Time time) passed unwanted)
+passed_all x habit design points vars instance (Value code value ∷ passed) entries unwanted f =
+    let next = passed_one x habit design points vars instance entries code value (All-head (IsUnwanted x.wanted.items) (Value code value) passed unwanted) f in
+    subst (HasFollowed x habit design points vars instance) (append_assoc entries (Value code value ∷ []) passed)
+    (passed_all x habit design points vars instance passed (entries ++ Value code value ∷ []) (All-tail (IsUnwanted x.wanted.items) (Value code value) passed unwanted) next)
 
 -- a change
 pub changed : (x y : DumpReplay) (code : ℕ) (value : Vector) → IsReady y.replay → made_of y.replay ≡ made_of x.replay → (IsNew x.replay → IsNew y.replay) → given_of y.replay ≡ slice_set (given_of x.replay) code (Some (without_sign value)) → y.wanted ≡ x.wanted → y.last ≡ x.last
     → ((dump : BoundDump) (t : ℕ) → Follows x.replay dump t → Follows y.replay dump t)
-    → (design : Design) (points : Points) (vars : List Var) (instance : List ℕ) (entries : List Entry) → HasFollowed x design points vars instance entries → HasFollowed y design points vars instance (entries ++ Value code value ∷ [])
-changed x y code value ready made stays given wanted last follows design points vars instance entries f =
+    → (habit : Habit) (design : Design) (points : Points) (vars : List Var) (instance : List ℕ) (entries : List Entry) → HasFollowed x habit design points vars instance entries → HasFollowed y habit design points vars instance (entries ++ Value code value ∷ [])
+changed x y code value ready made stays given wanted last follows habit design points vars instance entries f =
     let long : length (given_of y.replay) ≡ length (given_of x.replay) = ap length given ∙ length-set (given_of x.replay) code (Some (without_sign value)) in
     record {
-      of = of_again x y design points vars instance ready made long wanted f.of;
+      of = of_again x y habit design points vars instance ready made long wanted f.of;
       last = last ∙ f.last ∙ sym (last_value_entry entries code value);
       taken = taken_value (Follows x.replay) (Follows y.replay) (IsNew x.replay) (IsNew y.replay) (codes_of design vars instance) (value_of (given_of x.replay)) (value_of (given_of y.replay)) entries code value follows stays
           (λ s bound. ap (λ g. bits_of (value_of g code)) given ∙ ap bits_of (get_or-set_same (given_of x.replay) code (Some (without_sign value)) None (f.of.within code (s, bound))))
@@ -91,12 +93,12 @@ changed x y code value ready made stays given wanted last follows design points 
 
 -- the first time
 pub first_opened : (x y : DumpReplay) (time : ℕ) → x.last ≡ None → y.replay ≡ x.replay → y.wanted ≡ x.wanted → y.last ≡ Some time
-    → (design : Design) (points : Points) (vars : List Var) (instance : List ℕ) (entries : List Entry) → HasFollowed x design points vars instance entries → HasFollowed y design points vars instance (entries ++ Time time ∷ [])
-first_opened x y time none replay wanted last design points vars instance entries f =
+    → (habit : Habit) (design : Design) (points : Points) (vars : List Var) (instance : List ℕ) (entries : List Entry) → HasFollowed x habit design points vars instance entries → HasFollowed y habit design points vars instance (entries ++ Time time ∷ [])
+first_opened x y time none replay wanted last habit design points vars instance entries f =
     let ready : IsReady y.replay = subst IsReady (sym replay) f.of.ready in
     let taken = taken_first (Follows x.replay) (IsNew x.replay) (codes_of design vars instance) (value_of (given_of x.replay)) entries time (sym f.last ∙ none) f.taken in
     record {
-      of = of_again x y design points vars instance ready (ap made_of replay) (ap (λ r. length (given_of r)) replay) wanted f.of;
+      of = of_again x y habit design points vars instance ready (ap made_of replay) (ap (λ r. length (given_of r)) replay) wanted f.of;
       last = last ∙ sym (last_time_append None entries (Time time ∷ []));
       taken = subst (λ r. HasTaken (Follows r) (IsNew r) (codes_of design vars instance) (value_of (given_of r)) (entries ++ Time time ∷ [])) (sym replay) taken;
     }
@@ -104,18 +106,18 @@ first_opened x y time none replay wanted last design points vars instance entrie
 -- a later time, once the step of the last one is closed
 pub later_opened : (x z y : DumpReplay) (last time : ℕ) → IsReady z.replay → IsStarted z.replay → made_of z.replay ≡ made_of x.replay → given_of z.replay ≡ given_of x.replay → z.wanted ≡ x.wanted → x.last ≡ Some last
     → y.replay ≡ z.replay → y.wanted ≡ z.wanted → y.last ≡ Some time
-    → ((design : Design) (points : Points) (vars : List Var) (instance : List ℕ) (entries more : List Entry) (next : ℕ) → AreEntries vars entries → Rises None (entries ++ Time next ∷ more) → last_time None entries ≡ Some last
-    → HasFollowed x design points vars instance entries → Follows z.replay (dump_with (codes_of design vars instance) entries next more) last)
-    → (design : Design) (points : Points) (vars : List Var) (instance : List ℕ) (entries : List Entry) → AreEntries vars entries → HasFollowed x design points vars instance entries
-    → HasFollowed y design points vars instance (entries ++ Time time ∷ [])
-later_opened x z y last time ready started made given wanted had replay kept opened closed design points vars instance entries are f =
+    → ((habit : Habit) (design : Design) (points : Points) (vars : List Var) (instance : List ℕ) (entries more : List Entry) (next : ℕ) → AreEntries vars entries → Rises None (entries ++ Time next ∷ more) → last_time None entries ≡ Some last
+    → HasFollowed x habit design points vars instance entries → Follows z.replay (dump_with (codes_of design vars instance) entries next more) last)
+    → (habit : Habit) (design : Design) (points : Points) (vars : List Var) (instance : List ℕ) (entries : List Entry) → AreEntries vars entries → HasFollowed x habit design points vars instance entries
+    → HasFollowed y habit design points vars instance (entries ++ Time time ∷ [])
+later_opened x z y last time ready started made given wanted had replay kept opened closed habit design points vars instance entries are f =
     let is_last : last_time None entries ≡ Some last = sym f.last ∙ had in
     let codes = codes_of design vars instance in
     let have : HaveValues codes (given_of x.replay) = subst (λ g. HaveValues codes g) given (subst (λ cs. HaveValues cs (given_of z.replay)) (ap (λ (m : Made). m.codes) made ∙ f.of.codes) (ready.begun started)) in
     let taken = taken_time (Follows x.replay) (Follows z.replay) (IsNew x.replay) (IsNew z.replay) codes (value_of (given_of x.replay)) entries last time is_last (some_values codes (given_of x.replay) have)
-    (λ more rises. closed design points vars instance entries more time are rises is_last f) f.taken in
+    (λ more rises. closed habit design points vars instance entries more time are rises is_last f) f.taken in
     record {
-      of = of_again x y design points vars instance (subst IsReady (sym replay) ready) (ap made_of replay ∙ made) (ap (λ r. length (given_of r)) replay ∙ ap length given) (kept ∙ wanted) f.of;
+      of = of_again x y habit design points vars instance (subst IsReady (sym replay) ready) (ap made_of replay ∙ made) (ap (λ r. length (given_of r)) replay ∙ ap length given) (kept ∙ wanted) f.of;
       last = opened ∙ sym (last_time_append None entries (Time time ∷ []));
       taken =
           subst (λ r. HasTaken (Follows r) (IsNew r) codes (value_of (given_of r)) (entries ++ Time time ∷ [])) (sym replay)

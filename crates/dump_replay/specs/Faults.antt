@@ -2,7 +2,7 @@
 use Rattle.std.specs.Prelude.{◌≡◌, ◌<◌, ◌++◌, ◌∷◌, [], ℕ, List, length, Option, None, Some}
 use Rattle.design_model.specs.View.{design_view}
 use Rattle.design_model.specs.declared.design.Design.{Design}
-use Rattle.event_machine.specs.Habit.{Free}
+use Rattle.event_machine.specs.Habit.{Habit}
 use Rattle.four_state.specs.Vector.{Vector}
 use Rattle.four_state.specs.declared.bit.Bit.{Bit}
 use Rattle.vcd_reader.specs.Dump.{steps_of}
@@ -25,13 +25,13 @@ pub record EndsStep (entries : List Entry) (time : ℕ) : Type 0 where
   pub last : last_time None front ≡ Some time
 
 -- the entries end with a time, and no run of the design shows their dump up to the time before it; what the dump says of the signal then differs in a sure bit from what was made of it
-pub record IsContradicted (design : Design) (vars : List Var) (instance : List ℕ) (entries : List Entry) (s time : ℕ) (dumped : Vector) (computed : List (Option Bit)) : Type 0 where
+pub record IsContradicted (habit : Habit) (design : Design) (vars : List Var) (instance : List ℕ) (entries : List Entry) (s time : ℕ) (dumped : Vector) (computed : List (Option Bit)) : Type 0 where
   pub bindable : IsBindable design vars instance
   pub ends : EndsStep entries time
   pub listed : s < length design.signals
-  pub refuted : IsRefuted (design_view design) Free (dump_of (codes_of design vars instance) (steps_of entries)) time s dumped computed
+  pub refuted : IsRefuted (design_view design) habit (dump_of (codes_of design vars instance) (steps_of entries)) time s dumped computed
 
 -- the entries have the fault
-abbrev pub IsReplayFault : Design → List Var → List ℕ → List Entry → ReplayFault → Type 0
-IsReplayFault design vars instance entries (NoBaseline s) = HasNoBaseline design vars instance entries s
-IsReplayFault design vars instance entries (Contradiction s time dumped computed) = IsContradicted design vars instance entries s time dumped computed.bits
+abbrev pub IsReplayFault : Habit → Design → List Var → List ℕ → List Entry → ReplayFault → Type 0
+IsReplayFault habit design vars instance entries (NoBaseline s) = HasNoBaseline design vars instance entries s
+IsReplayFault habit design vars instance entries (Contradiction s time dumped computed) = IsContradicted habit design vars instance entries s time dumped computed.bits

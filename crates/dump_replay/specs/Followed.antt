@@ -8,7 +8,6 @@ use Rattle.design_model.specs.Design.{Design as Tree, signal_bits}
 use Rattle.design_model.specs.Shows.{BoundDump}
 use Rattle.design_model.specs.View.{design_view}
 use Rattle.design_model.specs.declared.design.Design.{Design}
-use Rattle.early_sets.specs.declared.habit.Habit.TheVariants.{Free}
 use Rattle.event_machine.specs.Habit.{Habit}
 use Rattle.four_state.specs.declared.bit.Bit.{Bit}
 use Rattle.vcd_reader.specs.Times.{last_time}
@@ -17,6 +16,7 @@ use Rattle.vcd_reader.specs.declared.vars.Var.{Var}
 use Rattle.replay_core.specs.Followed.{HasFollowed as HasFollowedDump}
 use Rattle.replay_core.specs.Parts.{IsNew, IsReady, given_of, made_of}
 use Rattle.replay_core.specs.declared.replay.Replay.{Replay}
+use Rattle.replay_core.specs.wake_laws.Laws.{habit_of}
 use Rattle.signal_binding.specs.Binding.{IsBindable, codes_of}
 use Rattle.code_values.specs.Values.{value_of}
 use Rattle.score_tables.specs.Scored.{AreScored}
@@ -24,12 +24,12 @@ use Rattle.dump_replay.specs.Taken.{HasTaken}
 use Rattle.bound_codes.specs.Codes.{AreWanted, IsCoded}
 use Rattle.dump_replay.specs.declared.replay.DumpReplay.{DumpReplay}
 
--- the replay is one of this design, whose inputs move freely, and of its points, of which the instance is the top in a dump with these variables
-pub record IsReplayOf (x : DumpReplay) (design : Design) (points : Points) (vars : List Var) (instance : List ℕ) : Type 0 where
+-- the replay is one of this design, whose inputs move by this habit, and of its points, of which the instance is the top in a dump with these variables
+pub record IsReplayOf (x : DumpReplay) (habit : Habit) (design : Design) (points : Points) (vars : List Var) (instance : List ℕ) : Type 0 where
   pub ready : IsReady x.replay
   pub bindable : IsBindable design vars instance
   pub design_is : (made_of x.replay).design ≡ design_view design
-  pub habit_is : (made_of x.replay).habit ≡ Free
+  pub habit_is : habit_of (made_of x.replay).habit ≡ habit
   pub points_are : (made_of x.replay).points ≡ points
   pub codes : (made_of x.replay).codes ≡ codes_of design vars instance
   pub within : (code : ℕ) → IsCoded (codes_of design vars instance) code → code < length (given_of x.replay)
@@ -40,8 +40,8 @@ abbrev pub Follows : Replay → BoundDump → ℕ → Type 0
 Follows x dump t = HasFollowedDump x dump t
 
 -- it was given these entries, and has followed each dump that begins with them up to the last time but one
-pub record HasFollowed (x : DumpReplay) (design : Design) (points : Points) (vars : List Var) (instance : List ℕ) (entries : List Entry) : Type 0 where
-  pub of : IsReplayOf x design points vars instance
+pub record HasFollowed (x : DumpReplay) (habit : Habit) (design : Design) (points : Points) (vars : List Var) (instance : List ℕ) (entries : List Entry) : Type 0 where
+  pub of : IsReplayOf x habit design points vars instance
   pub last : x.last ≡ last_time None entries
   pub taken : HasTaken (Follows x.replay) (IsNew x.replay) (codes_of design vars instance) (value_of (given_of x.replay)) entries
 

@@ -1,4 +1,4 @@
-//! The replay of a dump of a design without memories, whose inputs move freely, while the dump is read.
+//! The replay of a dump of a design whose inputs move by a habit, while the dump is read.
 //!
 //! A [`DumpReplay`] binds the signals of the design to the variables of the dump's header, and takes the times and changes of its
 //! body one by one: at each time the step of the time before it is closed. It is proved that it has then followed each dump that
@@ -8,6 +8,7 @@
 
 mod replay;
 
+pub use early_sets::Habit;
 pub use replay::DumpReplay;
 pub use replay_core::ReplayFault;
 pub use score_tables::score_table;

@@ -6,9 +6,10 @@ ghost use Rattle.design_model.specs.Design.{signal_at};
 ghost use Rattle.design_model.specs.View.{design_view};
 ghost use Rattle.design_model.specs.declared.design.Design.{Design as TheDesign};
 ghost use Rattle.entry_laws.specs.Entries.{AreEntries};
-ghost use Rattle.event_machine.specs.Habit.{Free};
+ghost use Rattle.event_machine.specs.Habit.{Habit as TheHabit};
 ghost use Rattle.replay_core.specs.Fits.{IsReplayable};
 ghost use Rattle.replay_core.specs.Parts.{IsReady, IsStarted, given_of, made_of};
+ghost use Rattle.replay_core.specs.wake_laws.Laws.{habit_of};
 ghost use Rattle.shown_dumps.specs.Laws.{dump_with};
 ghost use Rattle.shown_dumps.specs.Shown.{code_at, dump_of};
 ghost use Rattle.signal_binding.specs.Binding.{IsBindFault, codes_of};
@@ -60,9 +61,11 @@ impl Drop for DumpReplay<'_> {
 impl<'a> DumpReplay<'a> {
     ghost use Rattle.dump_replay.specs.Followed.{AreFinalMarks, Follows, HasFollowed};
 
-    /// Binds the signals of a design with these points, of which the instance is the top, to the variables of a dump.
+    /// Binds the signals of a design with these points, of which the instance is the top and whose inputs move by this habit, to the
+    /// variables of a dump.
     pub fn new(
         alloc: Global,
+        habit: Habit,
         design: &'a Design,
         points: &'a Points,
         vars: &Vars,
@@ -72,13 +75,13 @@ impl<'a> DumpReplay<'a> {
         requires placed { ArePlaced points.now }
         requires few { length (points_of points.now) ≤ MOST_POINTS }
         ensures ready { IfOk result (λ x. IsReady x.replay) }
-        ensures followed { IfOk result (λ x. HasFollowed x design.now points.now vars.now instance.now []) }
+        ensures followed { IfOk result (λ x. HasFollowed x (habit_of habit) design.now points.now vars.now instance.now []) }
         ensures fault { IfErr result (IsBindFault design.now vars.now instance.now) }
     {
         let binding = bind(alloc, design, vars, instance)?;
         let codes = signal_codes(alloc, &binding, design.signals.len() as u32)?;
         let wanted = coded_flags(alloc, codes.as_slice())?;
-        let replay = Replay::new(alloc, Habit::Free, design, points, codes)?;
+        let replay = Replay::new(alloc, habit, design, points, codes)?;
         Ok(DumpReplay {
             replay,
             wanted,
@@ -89,8 +92,8 @@ impl<'a> DumpReplay<'a> {
     /// By code, whether its changes are wanted. They are those of the codes that signals have, and to pass over any others
     /// changes nothing.
     pub fn wanted(&self) -> &[bool]
-        ensures { (design : TheDesign) (points : ThePoints) (vars : List TheVar) (instance : List ℕ) (entries passed : List Entry)
-            → HasFollowed self.now design points vars instance entries → All (IsUnwanted result.now) passed → HasFollowed self.now design points vars instance (entries ++ passed) }
+        ensures { (habit : TheHabit) (design : TheDesign) (points : ThePoints) (vars : List TheVar) (instance : List ℕ) (entries passed : List Entry)
+            → HasFollowed self.now habit design points vars instance entries → All (IsUnwanted result.now) passed → HasFollowed self.now habit design points vars instance (entries ++ passed) }
     {
         self.wanted.as_slice()
     }
@@ -101,8 +104,8 @@ impl<'a> DumpReplay<'a> {
         requires width { (s : ℕ) → code_at (made_of self.old.replay).codes s ≡ Some code → length value.now.bits ≡ (signal_at (made_of self.old.replay).design s).width }
         ensures ready { IsReady self.new.replay }
         ensures made { made_of self.new.replay ≡ made_of self.old.replay }
-        ensures followed { (design : TheDesign) (points : ThePoints) (vars : List TheVar) (instance : List ℕ) (entries : List Entry)
-            → HasFollowed self.old design points vars instance entries → HasFollowed self.new design points vars instance (entries ++ entry.Value code value.now ∷ []) }
+        ensures followed { (habit : TheHabit) (design : TheDesign) (points : ThePoints) (vars : List TheVar) (instance : List ℕ) (entries : List Entry)
+            → HasFollowed self.old habit design points vars instance entries → HasFollowed self.new habit design points vars instance (entries ++ entry.Value code value.now ∷ []) }
     {
         self.replay.change(code, value);
     }
@@ -113,12 +116,12 @@ impl<'a> DumpReplay<'a> {
         requires ready { IsReady self.old.replay }
         ensures ready { IsReady self.new.replay }
         ensures made { made_of self.new.replay ≡ made_of self.old.replay }
-        ensures followed { OnOk result ((design : TheDesign) (points : ThePoints) (vars : List TheVar) (instance : List ℕ) (entries : List Entry)
-            → AreEntries vars entries → Rises None (entries ++ entry.Time time ∷ []) → HasFollowed self.old design points vars instance entries
-            → HasFollowed self.new design points vars instance (entries ++ entry.Time time ∷ [])) }
-        ensures fault { IfErr result (λ fault. (design : TheDesign) (points : ThePoints) (vars : List TheVar) (instance : List ℕ) (entries : List Entry)
-            → AreEntries vars entries → Rises None (entries ++ entry.Time time ∷ []) → HasFollowed self.old design points vars instance entries
-            → IsReplayFault design vars instance (entries ++ entry.Time time ∷ []) fault) }
+        ensures followed { OnOk result ((habit : TheHabit) (design : TheDesign) (points : ThePoints) (vars : List TheVar) (instance : List ℕ) (entries : List Entry)
+            → AreEntries vars entries → Rises None (entries ++ entry.Time time ∷ []) → HasFollowed self.old habit design points vars instance entries
+            → HasFollowed self.new habit design points vars instance (entries ++ entry.Time time ∷ [])) }
+        ensures fault { IfErr result (λ fault. (habit : TheHabit) (design : TheDesign) (points : ThePoints) (vars : List TheVar) (instance : List ℕ) (entries : List Entry)
+            → AreEntries vars entries → Rises None (entries ++ entry.Time time ∷ []) → HasFollowed self.old habit design points vars instance entries
+            → IsReplayFault habit design vars instance (entries ++ entry.Time time ∷ []) fault) }
     {
         match self.last {
             Some(last) => self.open_later(last, time),
@@ -135,12 +138,12 @@ impl<'a> DumpReplay<'a> {
         requires last { self.old.last ≡ Some last }
         ensures ready { IsReady self.new.replay }
         ensures made { made_of self.new.replay ≡ made_of self.old.replay }
-        ensures followed { OnOk result ((design : TheDesign) (points : ThePoints) (vars : List TheVar) (instance : List ℕ) (entries : List Entry)
-            → AreEntries vars entries → Rises None (entries ++ entry.Time time ∷ []) → HasFollowed self.old design points vars instance entries
-            → HasFollowed self.new design points vars instance (entries ++ entry.Time time ∷ [])) }
-        ensures fault { IfErr result (λ fault. (design : TheDesign) (points : ThePoints) (vars : List TheVar) (instance : List ℕ) (entries : List Entry)
-            → AreEntries vars entries → Rises None (entries ++ entry.Time time ∷ []) → HasFollowed self.old design points vars instance entries
-            → IsReplayFault design vars instance (entries ++ entry.Time time ∷ []) fault) }
+        ensures followed { OnOk result ((habit : TheHabit) (design : TheDesign) (points : ThePoints) (vars : List TheVar) (instance : List ℕ) (entries : List Entry)
+            → AreEntries vars entries → Rises None (entries ++ entry.Time time ∷ []) → HasFollowed self.old habit design points vars instance entries
+            → HasFollowed self.new habit design points vars instance (entries ++ entry.Time time ∷ [])) }
+        ensures fault { IfErr result (λ fault. (habit : TheHabit) (design : TheDesign) (points : ThePoints) (vars : List TheVar) (instance : List ℕ) (entries : List Entry)
+            → AreEntries vars entries → Rises None (entries ++ entry.Time time ∷ []) → HasFollowed self.old habit design points vars instance entries
+            → IsReplayFault habit design vars instance (entries ++ entry.Time time ∷ []) fault) }
     {
         self.close::<Brand>(last, Blank::new(1))?;
         self.last = Some(time);
@@ -150,9 +153,9 @@ impl<'a> DumpReplay<'a> {
     /// The marks of the points at the end of the dump. The step of the last time is not closed.
     pub fn finish(self) -> Marks
         requires ready { IsReady self.replay }
-        ensures { (design : TheDesign) (points : ThePoints) (vars : List TheVar) (instance : List ℕ) (entries : List Entry) → Rises None entries
-            → HasFollowed self.entry design points vars instance entries
-            → AreFinalMarks (design_view design) Free (dump_of (codes_of design vars instance) (steps_of entries)) points result }
+        ensures { (habit : TheHabit) (design : TheDesign) (points : ThePoints) (vars : List TheVar) (instance : List ℕ) (entries : List Entry) → Rises None entries
+            → HasFollowed self.entry habit design points vars instance entries
+            → AreFinalMarks (design_view design) habit (dump_of (codes_of design vars instance) (steps_of entries)) points result }
     {
         let DumpReplay {
             replay,
@@ -174,12 +177,12 @@ impl<'a> DumpReplay<'a> {
         ensures wanted { self.new.wanted ≡ self.old.wanted }
         ensures last { self.new.last ≡ self.old.last }
         ensures started { OnOk result (IsStarted self.new.replay) }
-        ensures followed { OnOk result ((design : TheDesign) (points : ThePoints) (vars : List TheVar) (instance : List ℕ) (entries more : List Entry) (next : ℕ)
-            → AreEntries vars entries → Rises None (entries ++ entry.Time next ∷ more) → last_time None entries ≡ Some time → HasFollowed self.old design points vars instance entries
+        ensures followed { OnOk result ((habit : TheHabit) (design : TheDesign) (points : ThePoints) (vars : List TheVar) (instance : List ℕ) (entries more : List Entry) (next : ℕ)
+            → AreEntries vars entries → Rises None (entries ++ entry.Time next ∷ more) → last_time None entries ≡ Some time → HasFollowed self.old habit design points vars instance entries
             → Follows self.new.replay (dump_with (codes_of design vars instance) entries next more) time) }
-        ensures fault { IfErr result (λ fault. (design : TheDesign) (points : ThePoints) (vars : List TheVar) (instance : List ℕ) (entries : List Entry) (next : ℕ)
-            → AreEntries vars entries → Rises None (entries ++ entry.Time next ∷ []) → last_time None entries ≡ Some time → HasFollowed self.old design points vars instance entries
-            → IsReplayFault design vars instance (entries ++ entry.Time next ∷ []) fault) }
+        ensures fault { IfErr result (λ fault. (habit : TheHabit) (design : TheDesign) (points : ThePoints) (vars : List TheVar) (instance : List ℕ) (entries : List Entry) (next : ℕ)
+            → AreEntries vars entries → Rises None (entries ++ entry.Time next ∷ []) → last_time None entries ≡ Some time → HasFollowed self.old habit design points vars instance entries
+            → IsReplayFault habit design vars instance (entries ++ entry.Time next ∷ []) fault) }
     {
         let mut steps = Steps::<L>::new(blank);
         if self.replay.has_started() {

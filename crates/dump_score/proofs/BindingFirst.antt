@@ -3,6 +3,7 @@ use Rattle.std.proofs.Common.{◌≡◌, ◌≢◌, ◌∙◌, ℕ, is_some, Opt
 use Rattle.std.proofs.lemmas.Bool.{false≢true}
 use Rattle.std.specs.Prelude.{IsSome}
 use Rattle.design_model.specs.declared.design.Design.{Design}
+use Rattle.event_machine.specs.Habit.{Habit}
 use Rattle.dump_replay.specs.Faults.{IsReplayFault}
 use Rattle.dump_replay.specs.replay_core.declared.fault.ReplayFault.{ReplayFault}
 use Rattle.dump_replay.specs.replay_core.declared.fault.ReplayFault.TheVariants.{Contradiction, NoBaseline}
@@ -29,18 +30,18 @@ unbound design vars instance bind_fault.NoInstance named is bound = false≢true
 unbound design vars instance (bind_fault.InputNotDumped signal) named is bound = some_or_none _ (bound.inputs signal is.listed is.input) is.none
 
 -- where the replay has a fault the design is bound
-pub replay_binds : (design : Design) (vars : List Var) (instance : List ℕ) (entries : List Entry) (f : ReplayFault) → IsReplayFault design vars instance entries f → IsBindable design vars instance
-replay_binds design vars instance entries (NoBaseline s) is = is.bindable
-replay_binds design vars instance entries (Contradiction s time dumped computed) is = is.bindable
+pub replay_binds : (habit : Habit) (design : Design) (vars : List Var) (instance : List ℕ) (entries : List Entry) (f : ReplayFault) → IsReplayFault habit design vars instance entries f → IsBindable design vars instance
+replay_binds habit design vars instance entries (NoBaseline s) is = is.bindable
+replay_binds habit design vars instance entries (Contradiction s time dumped computed) is = is.bindable
 
-module _ (design : Design) (instance text : List ℕ) (f : BindFault) (named : f ≢ bind_fault.NoMemory) (is : IsTextFault design instance text (score_fault.Bind f)) where
+module _ (habit : Habit) (design : Design) (instance text : List ℕ) (f : BindFault) (named : f ≢ bind_fault.NoMemory) (is : IsTextFault habit design instance text (score_fault.Bind f)) where
   not_bound : (b : Body) → SaysBody text b → IsBindable design b.vars instance → ⊥
   not_bound b says bound =
       unbound design b.vars instance f named (subst (λ vars. IsBindFault design vars instance f) (sym (one_header text is.0 b is.1 says)) is.2) bound
 
-  pub no_fault : (kind : DumpKind) (byte : ℕ) → IsTextFault design instance text (score_fault.Dump (dump_fault.At kind byte)) → ⊥
+  pub no_fault : (kind : DumpKind) (byte : ℕ) → IsTextFault habit design instance text (score_fault.Dump (dump_fault.At kind byte)) → ⊥
   no_fault kind byte (first, inl none) = none is.0 is.1
   no_fault kind byte (first, inr binds) = not_bound binds.0 binds.1 binds.2
 
-  pub no_replay : (r : ReplayFault) → IsTextFault design instance text (score_fault.Replay r) → ⊥
-  no_replay r says = not_bound says.0 says.1 (replay_binds design says.0.vars instance says.0.items r says.2)
+  pub no_replay : (r : ReplayFault) → IsTextFault habit design instance text (score_fault.Replay r) → ⊥
+  no_replay r says = not_bound says.0 says.1 (replay_binds habit design says.0.vars instance says.0.items r says.2)

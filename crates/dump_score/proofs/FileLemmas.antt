@@ -6,6 +6,7 @@ use Rattle.whole_files.specs.Effects.{CountsUp, OnlyReads}
 use Rattle.whole_files.proofs.EffectLemmas.{IsCounted-earlier, OnlyReads-trans}
 use Rattle.whole_files.specs.declared.call.Call.TheVariants.{OpenRead, Read, OpenWrite, Write, CloseWrite}
 use Rattle.design_model.specs.declared.design.Design.{Design}
+use Rattle.event_machine.specs.Habit.{Habit}
 use Rattle.vcd_reader.specs.declared.fault.DumpFault.{DumpFault}
 use Rattle.vcd_reader.specs.declared.fault.DumpFault.TheVariants as dump_fault
 use Rattle.dump_score.specs.Faults.{IsDumpFault, IsFaultOfHeader, IsHeaderFault, IsScoreFault}
@@ -90,31 +91,31 @@ header_call_fault name before middle after (fault.Dump f) first second is = absu
 header_call_fault name before middle after (fault.Bind f) first second is = absurd is
 header_call_fault name before middle after (fault.Replay f) first second is = absurd is
 
-pub body_call_fault : (name : List ℕ) (before middle after : Outside) (design : Design) (instance : List ℕ) (f : ScoreFault) → CountsUp before middle → CountsUp middle after → IsPieceFault middle after f → IsScoreFault name before after design instance f
-body_call_fault name before middle after design instance (fault.Refused call) first second is = call_fault_earlier name before middle after (fault.Refused call) first second is
-body_call_fault name before middle after design instance fault.NoMemory first second is = tt
-body_call_fault name before middle after design instance (fault.Dump f) first second is = absurd is
-body_call_fault name before middle after design instance (fault.Bind f) first second is = absurd is
-body_call_fault name before middle after design instance (fault.Replay f) first second is = absurd is
+pub body_call_fault : (name : List ℕ) (before middle after : Outside) (habit : Habit) (design : Design) (instance : List ℕ) (f : ScoreFault) → CountsUp before middle → CountsUp middle after → IsPieceFault middle after f → IsScoreFault name before after habit design instance f
+body_call_fault name before middle after habit design instance (fault.Refused call) first second is = call_fault_earlier name before middle after (fault.Refused call) first second is
+body_call_fault name before middle after habit design instance fault.NoMemory first second is = tt
+body_call_fault name before middle after habit design instance (fault.Dump f) first second is = absurd is
+body_call_fault name before middle after habit design instance (fault.Bind f) first second is = absurd is
+body_call_fault name before middle after habit design instance (fault.Replay f) first second is = absurd is
 
 -- what refuses a header refuses the dump
 of_header : (design : Design) (instance text : List ℕ) (f : DumpFault) → IsFaultOfHeader text f → IsDumpFault design instance text f
 of_header design instance text dump_fault.NoMemory is = tt
 of_header design instance text (dump_fault.At kind byte) is = (is.0, inl is.1)
 
-pub header_refuses : (name : List ℕ) (before after : Outside) (design : Design) (instance : List ℕ) (f : ScoreFault) → IsHeaderFault name before after f → IsScoreFault name before after design instance f
-header_refuses name before after design instance (fault.Refused call) is = is
-header_refuses name before after design instance fault.NoMemory is = tt
-header_refuses name before after design instance (fault.Dump f) is = (is.0, is.1, of_header design instance is.0 f is.2)
-header_refuses name before after design instance (fault.Bind f) is = absurd is
-header_refuses name before after design instance (fault.Replay f) is = absurd is
+pub header_refuses : (name : List ℕ) (before after : Outside) (habit : Habit) (design : Design) (instance : List ℕ) (f : ScoreFault) → IsHeaderFault name before after f → IsScoreFault name before after habit design instance f
+header_refuses name before after habit design instance (fault.Refused call) is = is
+header_refuses name before after habit design instance fault.NoMemory is = tt
+header_refuses name before after habit design instance (fault.Dump f) is = (is.0, is.1, of_header design instance is.0 f is.2)
+header_refuses name before after habit design instance (fault.Bind f) is = absurd is
+header_refuses name before after habit design instance (fault.Replay f) is = absurd is
 
-pub call_refuses : (name : List ℕ) (before after : Outside) (design : Design) (instance : List ℕ) (f : ScoreFault) → IsCallFault name before after f → IsScoreFault name before after design instance f
-call_refuses name before after design instance (fault.Refused call) is = is
-call_refuses name before after design instance fault.NoMemory is = tt
-call_refuses name before after design instance (fault.Dump f) is = absurd is
-call_refuses name before after design instance (fault.Bind f) is = absurd is
-call_refuses name before after design instance (fault.Replay f) is = absurd is
+pub call_refuses : (name : List ℕ) (before after : Outside) (habit : Habit) (design : Design) (instance : List ℕ) (f : ScoreFault) → IsCallFault name before after f → IsScoreFault name before after habit design instance f
+call_refuses name before after habit design instance (fault.Refused call) is = is
+call_refuses name before after habit design instance fault.NoMemory is = tt
+call_refuses name before after habit design instance (fault.Dump f) is = absurd is
+call_refuses name before after habit design instance (fault.Bind f) is = absurd is
+call_refuses name before after habit design instance (fault.Replay f) is = absurd is
 
 some_piece : (piece : List ℕ) → 0 < length piece → piece ≢ []
 some_piece [] some = absurd (omega (arith, some))

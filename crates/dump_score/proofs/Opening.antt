@@ -3,6 +3,7 @@ use Rattle.std.proofs.Common.{◌≡◌, ◌⊎◌, ℕ, zero, suc, ◌+◌, ◌
 use Rattle.std.proofs.lemmas.List.{length-append, length-take, take_all}
 use Rattle.cov_host.specs.Outside.{Outside}
 use Rattle.design_model.specs.declared.design.Design.{Design}
+use Rattle.event_machine.specs.Habit.{Habit}
 use Rattle.vcd_reader.proofs.OneHeader.{none_stays}
 use Rattle.vcd_reader.proofs.TextLemmas.{fault_stays}
 use Rattle.vcd_reader.specs.Dump.{BeginsAs, SaysBody}
@@ -112,18 +113,18 @@ named_end design instance text dump_fault.NoMemory is binds = tt
 named_end design instance text (dump_fault.At kind byte) is binds = (inr is, inr binds)
 
 -- a design that is scored is bound, whatever comes after
-scoring_binds : (body : BodyRow) (replay : DumpReplay) (design : Design) (points : Points) (vars : List Var) (instance text rest : List ℕ) → IsScoring body replay design points vars instance text → Binds design instance (text ++ rest)
-scoring_binds body replay design points vars instance text rest is = (
+scoring_binds : (body : BodyRow) (replay : DumpReplay) (habit : Habit) (design : Design) (points : Points) (vars : List Var) (instance text rest : List ℕ) → IsScoring body replay habit design points vars instance text → Binds design instance (text ++ rest)
+scoring_binds body replay habit design points vars instance text rest is = (
   is.b,
   inl (record { front = text; rest = rest; word = is.stands.stands.word; split = refl; stands = is.stands.stands.stands }),
   subst (λ vs. IsBindable design vs instance) (sym is.vars_are) is.followed.of.bindable,
 )
 
-pub scoring_binds_on : (body : BodyRow) (replay : DumpReplay) (design : Design) (points : Points) (vars : List Var) (instance text piece rest : List ℕ) → IsScoring body replay design points vars instance text → Binds design instance ((text ++ piece) ++ rest)
-scoring_binds_on body replay design points vars instance text piece rest is = subst (Binds design instance) (sym (append_assoc text piece rest)) (scoring_binds body replay design points vars instance text (piece ++ rest) is)
+pub scoring_binds_on : (body : BodyRow) (replay : DumpReplay) (habit : Habit) (design : Design) (points : Points) (vars : List Var) (instance text piece rest : List ℕ) → IsScoring body replay habit design points vars instance text → Binds design instance ((text ++ piece) ++ rest)
+scoring_binds_on body replay habit design points vars instance text piece rest is = subst (Binds design instance) (sym (append_assoc text piece rest)) (scoring_binds body replay habit design points vars instance text (piece ++ rest) is)
 
-pub can_end_binds : (body : BodyRow) (replay : DumpReplay) (design : Design) (points : Points) (vars : List Var) (instance text : List ℕ) → CanEnd body replay design points vars instance text → Binds design instance text
-can_end_binds body replay design points vars instance text can = (
+pub can_end_binds : (body : BodyRow) (replay : DumpReplay) (habit : Habit) (design : Design) (points : Points) (vars : List Var) (instance text : List ℕ) → CanEnd body replay habit design points vars instance text → Binds design instance text
+can_end_binds body replay habit design points vars instance text can = (
   can.b,
   elim can.stands [
     | inl read ↦ inl (record { front = text; rest = []; word = read.stands.word; split = sym (append-nil text); stands = read.stands.stands })
@@ -133,24 +134,24 @@ can_end_binds body replay design points vars instance text can = (
 )
 
 -- a fault that was found stands in the whole file
-pub found_in_file : (name : List ℕ) (before after now : Outside) (design : Design) (instance text : List ℕ) (f : ScoreFault) → HasReadFile name before now text → ((rest : List ℕ) → Binds design instance (text ++ rest)) → IsFoundFault design instance text f → IsScoreFault name before after design instance f
-found_in_file name before after now design instance text (fault.Dump f) file binds is =
+pub found_in_file : (name : List ℕ) (before after now : Outside) (habit : Habit) (design : Design) (instance text : List ℕ) (f : ScoreFault) → HasReadFile name before now text → ((rest : List ℕ) → Binds design instance (text ++ rest)) → IsFoundFault habit design instance text f → IsScoreFault name before after habit design instance f
+found_in_file name before after now habit design instance text (fault.Dump f) file binds is =
     let whole = file_of name text before now file in
     (text ++ whole.0, whole.1, named_fault design instance (text ++ whole.0) f (fault_stays text whole.0 f is) (binds whole.0))
-found_in_file name before after now design instance text (fault.Replay f) file binds is =
+found_in_file name before after now habit design instance text (fault.Replay f) file binds is =
     let whole = file_of name text before now file in
     (text ++ whole.0, whole.1, (is.0, inl (begins_more text whole.0 is.0 is.1), is.2))
-found_in_file name before after now design instance text fault.NoMemory file binds is = absurd is
-found_in_file name before after now design instance text (fault.Refused call) file binds is = absurd is
-found_in_file name before after now design instance text (fault.Bind f) file binds is = absurd is
+found_in_file name before after now habit design instance text fault.NoMemory file binds is = absurd is
+found_in_file name before after now habit design instance text (fault.Refused call) file binds is = absurd is
+found_in_file name before after now habit design instance text (fault.Bind f) file binds is = absurd is
 
 -- so does one at its end
-pub end_in_file : (name : List ℕ) (before after : Outside) (design : Design) (instance text : List ℕ) (f : ScoreFault) → IsFile before name text → Binds design instance text → IsEndFault design instance text f → IsScoreFault name before after design instance f
-end_in_file name before after design instance text (fault.Dump f) file binds is = (text, file, named_end design instance text f is binds)
-end_in_file name before after design instance text (fault.Replay f) file binds is = (text, file, (is.0, inr is.1, is.2))
-end_in_file name before after design instance text fault.NoMemory file binds is = absurd is
-end_in_file name before after design instance text (fault.Refused call) file binds is = absurd is
-end_in_file name before after design instance text (fault.Bind f) file binds is = absurd is
+pub end_in_file : (name : List ℕ) (before after : Outside) (habit : Habit) (design : Design) (instance text : List ℕ) (f : ScoreFault) → IsFile before name text → Binds design instance text → IsEndFault habit design instance text f → IsScoreFault name before after habit design instance f
+end_in_file name before after habit design instance text (fault.Dump f) file binds is = (text, file, named_end design instance text f is binds)
+end_in_file name before after habit design instance text (fault.Replay f) file binds is = (text, file, (is.0, inr is.1, is.2))
+end_in_file name before after habit design instance text fault.NoMemory file binds is = absurd is
+end_in_file name before after habit design instance text (fault.Refused call) file binds is = absurd is
+end_in_file name before after habit design instance text (fault.Bind f) file binds is = absurd is
 
 -- where the header ended the text says a body without entries
 header_says : (ends : Bool) (body : BodyRow) (front rest : List ℕ) (b : Body) → (ends ≡ true → rest ≡ []) → BodyIs ends body front b → SaysBody (front ++ rest) b
@@ -165,13 +166,13 @@ is_none zero none = refl
 is_none (suc n) none = absurd (none (omega arith))
 
 -- a fault of the binding stands in the whole file
-pub bind_in_file : (name : List ℕ) (before after now : Outside) (design : Design) (instance piece : List ℕ) (opened : Opened) (f : _) → HasOpened name before now piece opened → IsBindFault design opened.vars instance f → IsScoreFault name before after design instance (fault.Bind f)
-bind_in_file name before after now design instance piece opened f o is = go (body_at_end opened.body) refl o.splits.stands
+pub bind_in_file : (name : List ℕ) (before after now : Outside) (habit : Habit) (design : Design) (instance piece : List ℕ) (opened : Opened) (f : _) → HasOpened name before now piece opened → IsBindFault design opened.vars instance f → IsScoreFault name before after habit design instance (fault.Bind f)
+bind_in_file name before after now habit design instance piece opened f o is = go (body_at_end opened.body) refl o.splits.stands
   where
     bound : IsBindFault design o.splits.b.vars instance f
     bound = subst (λ vars. IsBindFault design vars instance f) o.splits.vars_are is
 
-    go : (ends : Bool) → body_at_end opened.body ≡ ends → BodyIs ends opened.body o.front o.splits.b → IsFileFault name before design instance (fault.Bind f)
+    go : (ends : Bool) → body_at_end opened.body ≡ ends → BodyIs ends opened.body o.front o.splits.b → IsFileFault name before habit design instance (fault.Bind f)
     go false e stands =
         let whole = file_of name (o.front ++ behind opened.span piece) before now o.file in
         let more = behind opened.span piece ++ whole.0 in
@@ -186,9 +187,9 @@ either_ends false body text b stands = inl stands
 either_ends true body text b stands = inr stands
 
 -- the design was bound
-pub opened_bound : (name : List ℕ) (before now : Outside) (piece : List ℕ) (opened : Opened) (replay : DumpReplay) (design : Design) (points : Points) (instance : List ℕ) → HasOpened name before now piece opened → HasFollowed replay design points opened.vars instance [] → IsOpen name before now piece opened.span opened.body replay design points opened.vars instance
-opened_bound name before now piece opened replay design points instance o followed =
-    let said = subst (λ entries. HasFollowed replay design points opened.vars instance entries) (sym o.splits.none) followed in
+pub opened_bound : (name : List ℕ) (before now : Outside) (piece : List ℕ) (opened : Opened) (replay : DumpReplay) (habit : Habit) (design : Design) (points : Points) (instance : List ℕ) → HasOpened name before now piece opened → HasFollowed replay habit design points opened.vars instance [] → IsOpen name before now piece opened.span opened.body replay habit design points opened.vars instance
+opened_bound name before now piece opened replay habit design points instance o followed =
+    let said = subst (λ entries. HasFollowed replay habit design points opened.vars instance entries) (sym o.splits.none) followed in
     record {
       front = o.front;
       file = o.file;
@@ -198,30 +199,30 @@ opened_bound name before now piece opened replay design points instance o follow
     }
 
 -- so the body goes on where some of the piece is left
-pub open_scoring : (name : List ℕ) (before now : Outside) (piece : List ℕ) (span : Span) (body : BodyRow) (replay : DumpReplay) (design : Design) (points : Points) (vars : List Var) (instance : List ℕ) → IsOpen name before now piece span body replay design points vars instance → 0 < span.count → IsScoringSome body replay
-open_scoring name before now piece span body replay design points vars instance o some = (design, points, vars, instance, o.front, o.goes_on some)
+pub open_scoring : (name : List ℕ) (before now : Outside) (piece : List ℕ) (span : Span) (body : BodyRow) (replay : DumpReplay) (habit : Habit) (design : Design) (points : Points) (vars : List Var) (instance : List ℕ) → IsOpen name before now piece span body replay habit design points vars instance → 0 < span.count → IsScoringSome body replay
+open_scoring name before now piece span body replay habit design points vars instance o some = (habit, design, points, vars, instance, o.front, o.goes_on some)
 
 -- what the loop over the pieces of a body keeps
 pub record ReadsBody (start_body body : BodyRow) (start_replay replay : DumpReplay) (start_at at : ℕ) (start now : Outside) : Type 0 where
   pub reads : IsScoringSome body replay
   pub reading : now.reading ≡ true
   pub effects : OnlyReads start now
-  pub scores : (name : List ℕ) (before : Outside) (design : Design) (points : Points) (vars : List Var) (instance text : List ℕ) → HasReadFile name before start text → start_at ≡ length text → IsScoring start_body start_replay design points vars instance text
-      → (more : List ℕ) × HasReadFile name before now more × (at ≡ length more) × IsScoring body replay design points vars instance more
+  pub scores : (name : List ℕ) (before : Outside) (habit : Habit) (design : Design) (points : Points) (vars : List Var) (instance text : List ℕ) → HasReadFile name before start text → start_at ≡ length text → IsScoring start_body start_replay habit design points vars instance text
+      → (more : List ℕ) × HasReadFile name before now more × (at ≡ length more) × IsScoring body replay habit design points vars instance more
 
-pub can_end : (body : BodyRow) (replay : DumpReplay) (design : Design) (points : Points) (vars : List Var) (instance text : List ℕ) → IsScoring body replay design points vars instance text → CanEnd body replay design points vars instance text
-can_end body replay design points vars instance text is = record { b = is.b; stands = inl is.stands; vars_are = is.vars_are; followed = is.followed }
+pub can_end : (body : BodyRow) (replay : DumpReplay) (habit : Habit) (design : Design) (points : Points) (vars : List Var) (instance text : List ℕ) → IsScoring body replay habit design points vars instance text → CanEnd body replay habit design points vars instance text
+can_end body replay habit design points vars instance text is = record { b = is.b; stands = inl is.stands; vars_are = is.vars_are; followed = is.followed }
 
 -- a dump that was read is not too long
-pub not_too_long : (body : BodyRow) (replay : DumpReplay) (design : Design) (points : Points) (vars : List Var) (instance text : List ℕ) → IsScoring body replay design points vars instance text → length text ≤ 1099511627776
-not_too_long body replay design points vars instance text is = is.stands.stands.stands.within
+pub not_too_long : (body : BodyRow) (replay : DumpReplay) (habit : Habit) (design : Design) (points : Points) (vars : List Var) (instance text : List ℕ) → IsScoring body replay habit design points vars instance text → length text ≤ 1099511627776
+not_too_long body replay habit design points vars instance text is = is.stands.stands.stands.within
 
 pub more_length : (text piece : List ℕ) (at count : ℕ) → at ≡ length text → count ≤ length piece → at + count ≡ length (text ++ take count piece)
 more_length text piece at count e within = omega (arith, e, length-append text (take count piece), count_is count piece within)
 
 -- a piece that was used up
-pub whole_piece : (body : BodyRow) (replay : DumpReplay) (design : Design) (points : Points) (vars : List Var) (instance text piece : List ℕ) (used : ℕ) → length piece ≤ used → IsScoring body replay design points vars instance (text ++ take used piece) → IsScoring body replay design points vars instance (text ++ piece)
-whole_piece body replay design points vars instance text piece used all is = subst (λ t. IsScoring body replay design points vars instance (text ++ t)) (take_all used piece all) is
+pub whole_piece : (body : BodyRow) (replay : DumpReplay) (habit : Habit) (design : Design) (points : Points) (vars : List Var) (instance text piece : List ℕ) (used : ℕ) → length piece ≤ used → IsScoring body replay habit design points vars instance (text ++ take used piece) → IsScoring body replay habit design points vars instance (text ++ piece)
+whole_piece body replay habit design points vars instance text piece used all is = subst (λ t. IsScoring body replay habit design points vars instance (text ++ t)) (take_all used piece all) is
 
 pub positive : (n : ℕ) → (n ≡ 0 → ⊥) → 0 < n
 positive zero none = absurd (none refl)

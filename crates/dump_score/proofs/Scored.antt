@@ -7,13 +7,14 @@ use Rattle.dump_replay.specs.cover_marks.declared.marks.Marks.{Marks}
 use Rattle.cover_points.specs.declared.listing.Points.{Points}
 use Rattle.coverage_db.specs.declared.db.Db.{Db}
 use Rattle.design_model.specs.Design.{In}
+use Rattle.design_model.specs.Points.{StateNames}
 use Rattle.design_model.specs.View.{design_view}
 use Rattle.design_model.specs.declared.design.Design.{Design}
 use Rattle.dump_replay.specs.Followed.{AreFinalMarks}
 use Rattle.dump_replay.specs.declared.replay.DumpReplay.{DumpReplay}
 use Rattle.entry_laws.proofs.Texts.{body_entries}
 use Rattle.entry_laws.specs.Entries.{AreEntries, IsEntry}
-use Rattle.event_machine.specs.Habit.{Free}
+use Rattle.event_machine.specs.Habit.{Habit}
 use Rattle.dump_replay.specs.score_tables.Scored.{HasSmallTimes, IsScoreTable}
 use Rattle.dump_replay.proofs.shown_dumps.Times.{times_are}
 use Rattle.dump_replay.specs.shown_dumps.Bound.{IsBound}
@@ -37,7 +38,7 @@ small_times vars (Time time ∷ entries) fits t (inr at) = small_times vars entr
 small_times vars (Value code value ∷ entries) fits t at = small_times vars entries (All-tail (IsEntry vars) (Value code value) entries fits) t at
 
 -- a dump that was scored
-module _ (replay : DumpReplay) (design : Design) (points : Points) (vars : List Var) (instance text : List ℕ) (scored : HasScored replay design points vars instance text) where
+module _ (replay : DumpReplay) (habit : Habit) (design : Design) (points : Points) (vars : List Var) (instance text : List ℕ) (scored : HasScored replay habit design points vars instance text) where
   -- what the text says of the design
   abbrev pub said : Dump
   said = record { vars = vars; steps = steps_of scored.b.items }
@@ -55,9 +56,9 @@ module _ (replay : DumpReplay) (design : Design) (points : Points) (vars : List 
     first_values = λ two s. scored.followed.taken.based (subst (λ n. 2 ≤ n) (sym (length-map (steps_of scored.b.items) (λ step. step.time)) ∙ ap length (times_are scored.b.items)) two) s;
   }
 
-  pub scored_file : (name : List ℕ) (before : Outside) (sources : List (List ℕ)) (marks : Marks) (db : Db) → IsFile before name text → AreFinalMarks (design_view design) Free (dump_of (codes_of design vars instance) (steps_of scored.b.items)) points marks
-      → IsScoreTable (design_view design) Free (bound_dump design said instance) sources db → IsScoreOfFile name before design sources instance db
-  scored_file name before sources marks db file final table = record {
+  pub scored_file : (name : List ℕ) (before : Outside) (machines : List StateNames) (sources : List (List ℕ)) (marks : Marks) (db : Db) → IsFile before name text → AreFinalMarks (design_view design) habit (dump_of (codes_of design vars instance) (steps_of scored.b.items)) points marks
+      → IsScoreTable (design_view design) habit (bound_dump design said instance) machines sources db → IsScoreOfFile name before habit design machines sources instance db
+  scored_file name before machines sources marks db file final table = record {
     text = text;
     dump = said;
     is = file;

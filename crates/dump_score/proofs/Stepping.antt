@@ -2,6 +2,7 @@
 use Rattle.std.proofs.Common.{◌≡◌, ℕ, Bool, ◌+◌, ◌<◌, ◌≤◌, List, [], ◌∷◌, ◌++◌, length, take, drop, None, refl, sym, ap, subst, ◌∙◌, append_assoc, append-nil, arith, take-append-drop, inr}
 use Rattle.std.proofs.Math.Seq.{take-add, take-length}
 use Rattle.design_model.specs.declared.design.Design.{Design}
+use Rattle.event_machine.specs.Habit.{Habit}
 use Rattle.vcd_reader.proofs.RisingTimes.{times_rise, times_rise_so_far}
 use Rattle.vcd_reader.specs.Pieces.{BodyHasRead, IsFaultAt, StepsTo}
 use Rattle.vcd_reader.specs.Reading.{Body}
@@ -78,20 +79,20 @@ Steps wanted says used body new piece = (text : List ℕ) (b : Body) → BodyHas
 -- what is not wanted changes nothing
 abbrev pub PassesOver : List Bool → DumpReplay → Type 0
 PassesOver wanted replay =
-    (design : Design) (points : Points) (vars : List Var) (instance : List ℕ) (entries passed : List Entry) → HasFollowed replay design points vars instance entries → All (IsUnwanted wanted) passed
-    → HasFollowed replay design points vars instance (entries ++ passed)
+    (habit : Habit) (design : Design) (points : Points) (vars : List Var) (instance : List ℕ) (entries passed : List Entry) → HasFollowed replay habit design points vars instance entries → All (IsUnwanted wanted) passed
+    → HasFollowed replay habit design points vars instance (entries ++ passed)
 
 -- what is said is given to the replay
 abbrev pub Says : Item → DumpReplay → DumpReplay → Type 0
 Says says replay told =
-    (design : Design) (points : Points) (vars : List Var) (instance : List ℕ) (entries : List Entry) → AreEntries vars (entries ++ entries_of says) → Rises None (entries ++ entries_of says)
-    → HasFollowed replay design points vars instance entries → HasFollowed told design points vars instance (entries ++ entries_of says)
+    (habit : Habit) (design : Design) (points : Points) (vars : List Var) (instance : List ℕ) (entries : List Entry) → AreEntries vars (entries ++ entries_of says) → Rises None (entries ++ entries_of says)
+    → HasFollowed replay habit design points vars instance entries → HasFollowed told habit design points vars instance (entries ++ entries_of says)
 
 -- or the fault is one of what is said
 abbrev pub Faults : Item → DumpReplay → ReplayFault → Type 0
 Faults says replay f =
-    (design : Design) (points : Points) (vars : List Var) (instance : List ℕ) (entries : List Entry) → AreEntries vars (entries ++ entries_of says) → Rises None (entries ++ entries_of says)
-    → HasFollowed replay design points vars instance entries → IsReplayFault design vars instance (entries ++ entries_of says) f
+    (habit : Habit) (design : Design) (points : Points) (vars : List Var) (instance : List ℕ) (entries : List Entry) → AreEntries vars (entries ++ entries_of says) → Rises None (entries ++ entries_of says)
+    → HasFollowed replay habit design points vars instance entries → IsReplayFault habit design vars instance (entries ++ entries_of says) f
 
 rises_read : (body : BodyRow) (text : List ℕ) (b : Body) → BodyHasRead body text b → Rises None b.items
 rises_read body text b read = times_rise_so_far text read.stands.word b read.stands.stands
@@ -116,21 +117,21 @@ pub found_at : (text piece : List ℕ) (f : DumpFault) → 0 < length piece → 
 found_at text [] f some is = absurd (omega (arith, some))
 found_at text (byte ∷ piece) f some is = is
 
-fault_at : (design : Design) (vars : List Var) (instance : List ℕ) (f : ReplayFault) (b : Body) (entries : List Entry) → b.vars ≡ vars → b.items ≡ entries → IsReplayFault design vars instance entries f → IsReplayFault design b.vars instance b.items f
-fault_at design vars instance f b entries e g h =
-    subst (λ vs. IsReplayFault design vs instance b.items f) (sym e) (subst (λ es. IsReplayFault design vars instance es f) (sym g) h)
+fault_at : (habit : Habit) (design : Design) (vars : List Var) (instance : List ℕ) (f : ReplayFault) (b : Body) (entries : List Entry) → b.vars ≡ vars → b.items ≡ entries → IsReplayFault habit design vars instance entries f → IsReplayFault habit design b.vars instance b.items f
+fault_at habit design vars instance f b entries e g h =
+    subst (λ vs. IsReplayFault habit design vs instance b.items f) (sym e) (subst (λ es. IsReplayFault habit design vars instance es f) (sym g) h)
 
 -- what the replay finds is a fault of what was read
-pub saying_found : (design : Design) (vars : List Var) (instance text rest : List ℕ) (body : BodyRow) (b : Body) (entries : List Entry) (f : ReplayFault) → b.vars ≡ vars → b.items ≡ entries → BodyHasRead body text b → IsReplayFault design vars instance entries f → IsFoundFault design instance (text ++ rest) (fault.Replay f)
-saying_found design vars instance text rest body b entries f e g read h =
-    (b, record { front = text; rest = rest; word = read.stands.word; split = refl; stands = read.stands.stands }, fault_at design vars instance f b entries e g h)
+pub saying_found : (habit : Habit) (design : Design) (vars : List Var) (instance text rest : List ℕ) (body : BodyRow) (b : Body) (entries : List Entry) (f : ReplayFault) → b.vars ≡ vars → b.items ≡ entries → BodyHasRead body text b → IsReplayFault habit design vars instance entries f → IsFoundFault habit design instance (text ++ rest) (fault.Replay f)
+saying_found habit design vars instance text rest body b entries f e g read h =
+    (b, record { front = text; rest = rest; word = read.stands.word; split = refl; stands = read.stands.stands }, fault_at habit design vars instance f b entries e g h)
 
-pub saying_ends : (design : Design) (vars : List Var) (instance text : List ℕ) (b : Body) (entries : List Entry) (f : ReplayFault) → b.vars ≡ vars → b.items ≡ entries → EndsAs text b → IsReplayFault design vars instance entries f → IsEndFault design instance text (fault.Replay f)
-saying_ends design vars instance text b entries f e g ends h = (b, ends, fault_at design vars instance f b entries e g h)
+pub saying_ends : (habit : Habit) (design : Design) (vars : List Var) (instance text : List ℕ) (b : Body) (entries : List Entry) (f : ReplayFault) → b.vars ≡ vars → b.items ≡ entries → EndsAs text b → IsReplayFault habit design vars instance entries f → IsEndFault habit design instance text (fault.Replay f)
+saying_ends habit design vars instance text b entries f e g ends h = (b, ends, fault_at habit design vars instance f b entries e g h)
 
 -- a step from what was read so far
 module _ (wanted : List Bool) (says : Item) (used : ℕ) (body new : BodyRow) (replay : DumpReplay) (piece : List ℕ) (some : 0 < length piece) (steps : Steps wanted says used body new piece) (passes : PassesOver wanted replay)
-    (design : Design) (points : Points) (vars : List Var) (instance text : List ℕ) (is : IsScoring body replay design points vars instance text) where
+    (habit : Habit) (design : Design) (points : Points) (vars : List Var) (instance text : List ℕ) (is : IsScoring body replay habit design points vars instance text) where
   passing : Passed wanted is.b (StepsTo says used new text piece)
   passing = steps text is.b is.stands
 
@@ -141,8 +142,8 @@ module _ (wanted : List Bool) (says : Item) (used : ℕ) (body new : BodyRow) (r
   abbrev said : List Entry
   said = is.b.items ++ passing.passed
 
-  said_followed : HasFollowed replay design points vars instance said
-  said_followed = passes design points vars instance is.b.items passing.passed is.followed passing.unwanted
+  said_followed : HasFollowed replay habit design points vars instance said
+  said_followed = passes habit design points vars instance is.b.items passing.passed is.followed passing.unwanted
 
   said_rises : Rises None (said ++ entries_of says)
   said_rises = subst (Rises None) after_step.items (rises_read new (text ++ take used piece) after_step.next after_step.read)
@@ -153,33 +154,33 @@ module _ (wanted : List Bool) (says : Item) (used : ℕ) (body new : BodyRow) (r
       (subst (λ vs. AreEntries vs after_step.next.items) (after_step.vars ∙ is.vars_are) (fit_read new (text ++ take used piece) after_step.next after_step.read))
 
   step_can_say : CanSay replay says
-  step_can_say = (design, points, vars, instance, said, said_followed, said_fits)
+  step_can_say = (habit, design, points, vars, instance, said, said_followed, said_fits)
 
-  pub scored_step : (told : DumpReplay) → Says says replay told → IsScoring new told design points vars instance (text ++ take used piece)
+  pub scored_step : (told : DumpReplay) → Says says replay told → IsScoring new told habit design points vars instance (text ++ take used piece)
   scored_step told tells = record {
     b = after_step.next;
     stands = after_step.read;
     vars_are = after_step.vars ∙ is.vars_are;
-    followed = subst (λ entries. HasFollowed told design points vars instance entries) (sym after_step.items) (tells design points vars instance said said_fits said_rises said_followed);
+    followed = subst (λ entries. HasFollowed told habit design points vars instance entries) (sym after_step.items) (tells habit design points vars instance said said_fits said_rises said_followed);
   }
 
-  pub step_found : (f : ReplayFault) → Faults says replay f → IsFoundFault design instance (text ++ piece) (fault.Replay f)
+  pub step_found : (f : ReplayFault) → Faults says replay f → IsFoundFault habit design instance (text ++ piece) (fault.Replay f)
   step_found f faults =
-      subst (λ t. IsFoundFault design instance t (fault.Replay f)) (all_of text piece used)
-      (saying_found design vars instance (text ++ take used piece) (drop used piece) new after_step.next (said ++ entries_of says) f (after_step.vars ∙ is.vars_are) after_step.items after_step.read (faults design points vars instance said said_fits said_rises said_followed))
+      subst (λ t. IsFoundFault habit design instance t (fault.Replay f)) (all_of text piece used)
+      (saying_found habit design vars instance (text ++ take used piece) (drop used piece) new after_step.next (said ++ entries_of says) f (after_step.vars ∙ is.vars_are) after_step.items after_step.read (faults habit design points vars instance said said_fits said_rises said_followed))
 
 -- the replay can be given what the step says
 pub can_say : (wanted : List Bool) (says : Item) (used : ℕ) (body new : BodyRow) (replay : DumpReplay) (piece : List ℕ) → 0 < length piece → Steps wanted says used body new piece → PassesOver wanted replay → IsScoringSome body replay → CanSay replay says
-can_say wanted says used body new replay piece some steps passes (design, points, vars, instance, text, is) = step_can_say wanted says used body new replay piece some steps passes design points vars instance text is
+can_say wanted says used body new replay piece some steps passes (habit, design, points, vars, instance, text, is) = step_can_say wanted says used body new replay piece some steps passes habit design points vars instance text is
 
 -- and some text was read then
 pub scoring_some : (wanted : List Bool) (says : Item) (used : ℕ) (body new : BodyRow) (replay told : DumpReplay) (piece : List ℕ) → 0 < length piece → Steps wanted says used body new piece → PassesOver wanted replay → Says says replay told → IsScoringSome body replay → IsScoringSome new told
-scoring_some wanted says used body new replay told piece some steps passes tells (design, points, vars, instance, text, is) =
-    (design, points, vars, instance, text ++ take used piece, scored_step wanted says used body new replay piece some steps passes design points vars instance text is told tells)
+scoring_some wanted says used body new replay told piece some steps passes tells (habit, design, points, vars, instance, text, is) =
+    (habit, design, points, vars, instance, text ++ take used piece, scored_step wanted says used body new replay piece some steps passes habit design points vars instance text is told tells)
 
 -- a body of which some text was read goes on
 pub some_reading : (body : BodyRow) (replay : DumpReplay) → IsScoringSome body replay → IsReading body
-some_reading body replay (design, points, vars, instance, text, is) = (text, is.b, is.stands)
+some_reading body replay (habit, design, points, vars, instance, text, is) = (text, is.b, is.stands)
 
 -- ---- the end
 
@@ -205,7 +206,7 @@ pub ended_again : (text : List ℕ) (b : Body) → EndsAs text b → EndStepped 
 ended_again text b ends = record { next = b; ends = ends; items = sym (append-nil b.items); vars = refl }
 
 -- the end of what was read so far
-module _ (says : Item) (replay : DumpReplay) (design : Design) (points : Points) (vars : List Var) (instance text : List ℕ) (b : Body) (s : EndStepped says text b) (vars_are : b.vars ≡ vars) (followed : HasFollowed replay design points vars instance b.items) where
+module _ (says : Item) (replay : DumpReplay) (habit : Habit) (design : Design) (points : Points) (vars : List Var) (instance text : List ℕ) (b : Body) (s : EndStepped says text b) (vars_are : b.vars ≡ vars) (followed : HasFollowed replay habit design points vars instance b.items) where
   end_rises : Rises None (b.items ++ entries_of says)
   end_rises = subst (Rises None) s.items (times_rise text s.next s.ends)
 
@@ -213,33 +214,33 @@ module _ (says : Item) (replay : DumpReplay) (design : Design) (points : Points)
   end_fits = subst (λ es. AreEntries vars es) s.items (subst (λ vs. AreEntries vs s.next.items) (s.vars ∙ vars_are) (body_entries text s.next (inr s.ends)))
 
   pub end_can_say : CanSay replay says
-  end_can_say = (design, points, vars, instance, b.items, followed, end_fits)
+  end_can_say = (habit, design, points, vars, instance, b.items, followed, end_fits)
 
-  pub scored_end : (told : DumpReplay) → Says says replay told → HasScored told design points vars instance text
+  pub scored_end : (told : DumpReplay) → Says says replay told → HasScored told habit design points vars instance text
   scored_end told tells = record {
     b = s.next;
     ends = s.ends;
     vars_are = s.vars ∙ vars_are;
-    followed = subst (λ entries. HasFollowed told design points vars instance entries) (sym s.items) (tells design points vars instance b.items end_fits end_rises followed);
+    followed = subst (λ entries. HasFollowed told habit design points vars instance entries) (sym s.items) (tells habit design points vars instance b.items end_fits end_rises followed);
   }
 
-  pub end_fault : (f : ReplayFault) → Faults says replay f → IsEndFault design instance text (fault.Replay f)
-  end_fault f faults = saying_ends design vars instance text s.next (b.items ++ entries_of says) f (s.vars ∙ vars_are) s.items s.ends (faults design points vars instance b.items end_fits end_rises followed)
+  pub end_fault : (f : ReplayFault) → Faults says replay f → IsEndFault habit design instance text (fault.Replay f)
+  end_fault f faults = saying_ends habit design vars instance text s.next (b.items ++ entries_of says) f (s.vars ∙ vars_are) s.items s.ends (faults habit design points vars instance b.items end_fits end_rises followed)
 
 -- ---- a part of a piece
 
 pub found_in_piece : (text piece : List ℕ) (used : ℕ) (f : DumpFault) → 0 < length (drop used piece) → IsFaultAt (text ++ take used piece) (drop used piece) f → HasFault (text ++ piece) f
 found_in_piece text piece used f some is = subst (λ t. HasFault t f) (all_of text piece used) (found_at (text ++ take used piece) (drop used piece) f some is)
 
-pub say_found_in_piece : (wanted : List Bool) (says : Item) (step used : ℕ) (body new : BodyRow) (replay : DumpReplay) (piece : List ℕ) (design : Design) (points : Points) (vars : List Var) (instance text : List ℕ) (f : ReplayFault) → 0 < length (drop used piece) → Steps wanted says step body new (drop used piece) → PassesOver wanted replay
-    → Faults says replay f → IsScoring body replay design points vars instance (text ++ take used piece) → IsFoundFault design instance (text ++ piece) (fault.Replay f)
-say_found_in_piece wanted says step used body new replay piece design points vars instance text f some steps passes faults is =
-    subst (λ t. IsFoundFault design instance t (fault.Replay f)) (all_of text piece used) (step_found wanted says step body new replay (drop used piece) some steps passes design points vars instance (text ++ take used piece) is f faults)
+pub say_found_in_piece : (wanted : List Bool) (says : Item) (step used : ℕ) (body new : BodyRow) (replay : DumpReplay) (piece : List ℕ) (habit : Habit) (design : Design) (points : Points) (vars : List Var) (instance text : List ℕ) (f : ReplayFault) → 0 < length (drop used piece) → Steps wanted says step body new (drop used piece) → PassesOver wanted replay
+    → Faults says replay f → IsScoring body replay habit design points vars instance (text ++ take used piece) → IsFoundFault habit design instance (text ++ piece) (fault.Replay f)
+say_found_in_piece wanted says step used body new replay piece habit design points vars instance text f some steps passes faults is =
+    subst (λ t. IsFoundFault habit design instance t (fault.Replay f)) (all_of text piece used) (step_found wanted says step body new replay (drop used piece) some steps passes habit design points vars instance (text ++ take used piece) is f faults)
 
-pub scored_further : (wanted : List Bool) (says : Item) (step used : ℕ) (body new : BodyRow) (replay told : DumpReplay) (piece : List ℕ) (design : Design) (points : Points) (vars : List Var) (instance text : List ℕ) → 0 < length (drop used piece) → Steps wanted says step body new (drop used piece) → PassesOver wanted replay
-    → Says says replay told → IsScoring body replay design points vars instance (text ++ take used piece) → IsScoring new told design points vars instance (text ++ take (used + step) piece)
-scored_further wanted says step used body new replay told piece design points vars instance text some steps passes tells is =
-    subst (λ t. IsScoring new told design points vars instance t) (further text piece used step) (scored_step wanted says step body new replay (drop used piece) some steps passes design points vars instance (text ++ take used piece) is told tells)
+pub scored_further : (wanted : List Bool) (says : Item) (step used : ℕ) (body new : BodyRow) (replay told : DumpReplay) (piece : List ℕ) (habit : Habit) (design : Design) (points : Points) (vars : List Var) (instance text : List ℕ) → 0 < length (drop used piece) → Steps wanted says step body new (drop used piece) → PassesOver wanted replay
+    → Says says replay told → IsScoring body replay habit design points vars instance (text ++ take used piece) → IsScoring new told habit design points vars instance (text ++ take (used + step) piece)
+scored_further wanted says step used body new replay told piece habit design points vars instance text some steps passes tells is =
+    subst (λ t. IsScoring new told habit design points vars instance t) (further text piece used step) (scored_step wanted says step body new replay (drop used piece) some steps passes habit design points vars instance (text ++ take used piece) is told tells)
 
 pub OnOk-map : {T E P Q : Type 0} (result : Result T E) → (P → Q) → OnOk result P → OnOk result Q
 OnOk-map (Ok value) step holds = step holds

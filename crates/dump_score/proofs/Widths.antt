@@ -32,6 +32,6 @@ as_wide design vars instance code value fits s bound =
 
 -- so it is with the change that a dump says next
 pub change_width : (replay : DumpReplay) (code : ℕ) (value : Vector) → CanSay replay (item.Value code value) → (s : ℕ) → code_at (made_of replay.replay).codes s ≡ Some code → length value.bits ≡ (signal_at (made_of replay.replay).design s).width
-change_width replay code value (design, points, vars, instance, entries, followed, fits) s bound =
+change_width replay code value (habit, design, points, vars, instance, entries, followed, fits) s bound =
     as_wide design vars instance code value (last_fits vars entries (Value code value) fits) s (subst (λ cs. code_at cs s ≡ Some code) followed.of.codes bound)
     ∙ ap (λ d. (signal_at d s).width) (sym followed.of.design_is)

@@ -3,6 +3,7 @@ use Rattle.std.specs.Prelude.{◌⊎◌, ℕ, List}
 use Rattle.cov_host.specs.Outside.{Outside}
 use Rattle.design_model.specs.declared.design.Design.{Design}
 use Rattle.dump_replay.specs.Faults.{IsReplayFault}
+use Rattle.event_machine.specs.Habit.{Habit}
 use Rattle.signal_binding.specs.Binding.{IsBindFault, IsBindable}
 use Rattle.vcd_reader.specs.Dump.{BeginsAs, HasNoBody, SaysBody}
 use Rattle.vcd_reader.specs.Reading.{Body}
@@ -37,34 +38,34 @@ IsDumpFault design instance text (dump_fault.At kind byte) = IsFirstFault text (
 
 -- the text of the dump of the design has the fault, of which the instance is the top; a fault of the replay is one of what the text says
 -- up to a time, whatever comes after it
-abbrev pub IsTextFault : Design → List ℕ → List ℕ → ScoreFault → Type 0
-IsTextFault design instance text fault.NoMemory = Unit {0}
-IsTextFault design instance text (fault.Refused call) = ⊥
-IsTextFault design instance text (fault.Dump f) = IsDumpFault design instance text f
-IsTextFault design instance text (fault.Bind f) = SaysSome text (λ b. IsBindFault design b.vars instance f)
-IsTextFault design instance text (fault.Replay f) = SaysSome text (λ b. IsReplayFault design b.vars instance b.items f)
+abbrev pub IsTextFault : Habit → Design → List ℕ → List ℕ → ScoreFault → Type 0
+IsTextFault habit design instance text fault.NoMemory = Unit {0}
+IsTextFault habit design instance text (fault.Refused call) = ⊥
+IsTextFault habit design instance text (fault.Dump f) = IsDumpFault design instance text f
+IsTextFault habit design instance text (fault.Bind f) = SaysSome text (λ b. IsBindFault design b.vars instance f)
+IsTextFault habit design instance text (fault.Replay f) = SaysSome text (λ b. IsReplayFault habit design b.vars instance b.items f)
 
 -- the text of the file has the fault
-abbrev pub IsFileFault : List ℕ → Outside → Design → List ℕ → ScoreFault → Type 0
-IsFileFault name before design instance f = (text : List ℕ) × IsFile before name text × IsTextFault design instance text f
+abbrev pub IsFileFault : List ℕ → Outside → Habit → Design → List ℕ → ScoreFault → Type 0
+IsFileFault name before habit design instance f = (text : List ℕ) × IsFile before name text × IsTextFault habit design instance text f
 
 -- why a design is not scored by the dump in a file
-abbrev pub IsScoreFault : List ℕ → Outside → Outside → Design → List ℕ → ScoreFault → Type 0
-IsScoreFault name before after design instance fault.NoMemory = Unit {0}
-IsScoreFault name before after design instance (fault.Refused call) = IsCallFault name before after (fault.Refused call)
-IsScoreFault name before after design instance other = IsFileFault name before design instance other
+abbrev pub IsScoreFault : List ℕ → Outside → Outside → Habit → Design → List ℕ → ScoreFault → Type 0
+IsScoreFault name before after habit design instance fault.NoMemory = Unit {0}
+IsScoreFault name before after habit design instance (fault.Refused call) = IsCallFault name before after (fault.Refused call)
+IsScoreFault name before after habit design instance other = IsFileFault name before habit design instance other
 
 -- what was read has the fault, whatever comes after it
-abbrev pub IsFoundFault : Design → List ℕ → List ℕ → ScoreFault → Type 0
-IsFoundFault design instance text (fault.Dump f) = HasFault text f
-IsFoundFault design instance text (fault.Replay f) = (b : Body) × BeginsAs text b × IsReplayFault design b.vars instance b.items f
-IsFoundFault design instance text other = ⊥
+abbrev pub IsFoundFault : Habit → Design → List ℕ → List ℕ → ScoreFault → Type 0
+IsFoundFault habit design instance text (fault.Dump f) = HasFault text f
+IsFoundFault habit design instance text (fault.Replay f) = (b : Body) × BeginsAs text b × IsReplayFault habit design b.vars instance b.items f
+IsFoundFault habit design instance text other = ⊥
 
 -- the end of the text has the fault
-abbrev pub IsEndFault : Design → List ℕ → List ℕ → ScoreFault → Type 0
-IsEndFault design instance text (fault.Dump f) = EndsWithFault text f
-IsEndFault design instance text (fault.Replay f) = (b : Body) × EndsAs text b × IsReplayFault design b.vars instance b.items f
-IsEndFault design instance text other = ⊥
+abbrev pub IsEndFault : Habit → Design → List ℕ → List ℕ → ScoreFault → Type 0
+IsEndFault habit design instance text (fault.Dump f) = EndsWithFault text f
+IsEndFault habit design instance text (fault.Replay f) = (b : Body) × EndsAs text b × IsReplayFault habit design b.vars instance b.items f
+IsEndFault habit design instance text other = ⊥
 
 -- why no header was read from a file
 abbrev pub IsHeaderFault : List ℕ → Outside → Outside → ScoreFault → Type 0

@@ -5,13 +5,14 @@ use Rattle.cover_points.specs.declared.listing.Points.{Points}
 use Rattle.coverage_db.specs.declared.db.Db.{Db}
 use Rattle.design_model.specs.Clear.{IsForced}
 use Rattle.design_model.specs.Design.{Design as Tree, signal_bits}
+use Rattle.design_model.specs.Points.{StateNames}
 use Rattle.design_model.specs.Shows.{BoundDump}
 use Rattle.design_model.specs.View.{design_view}
 use Rattle.design_model.specs.declared.design.Design.{Design}
 use Rattle.dump_replay.specs.Followed.{HasFollowed}
 use Rattle.dump_replay.specs.declared.replay.DumpReplay.{DumpReplay}
 use Rattle.entry_laws.specs.Entries.{AreEntries}
-use Rattle.event_machine.specs.Habit.{Free}
+use Rattle.event_machine.specs.Habit.{Habit}
 use Rattle.four_state.specs.declared.bit.Bit.{Bit}
 use Rattle.dump_replay.specs.score_tables.Scored.{IsScoreTable}
 use Rattle.dump_replay.specs.shown_dumps.Bound.{IsBound}
@@ -40,47 +41,47 @@ entries_of item.End = []
 -- the replay was given entries of a dump, and this is what the dump says next
 abbrev pub CanSay : DumpReplay → Item → Type 0
 CanSay replay says =
-    (design : Design) × (points : Points) × (vars : List Var) × (instance : List ℕ) × (entries : List Entry)
-    × HasFollowed replay design points vars instance entries × AreEntries vars (entries ++ entries_of says)
+    (habit : Habit) × (design : Design) × (points : Points) × (vars : List Var) × (instance : List ℕ) × (entries : List Entry)
+    × HasFollowed replay habit design points vars instance entries × AreEntries vars (entries ++ entries_of says)
 
 -- the body goes on
 abbrev pub IsReading : BodyRow → Type 0
 IsReading body = (text : List ℕ) × (b : Body) × BodyHasRead body text b
 
 -- the text was read, and the replay was given what it says
-pub record IsScoring (body : BodyRow) (replay : DumpReplay) (design : Design) (points : Points) (vars : List Var) (instance text : List ℕ) : Type 0 where
+pub record IsScoring (body : BodyRow) (replay : DumpReplay) (habit : Habit) (design : Design) (points : Points) (vars : List Var) (instance text : List ℕ) : Type 0 where
   pub b : Body
   pub stands : BodyHasRead body text b
   pub vars_are : b.vars ≡ vars
-  pub followed : HasFollowed replay design points vars instance b.items
+  pub followed : HasFollowed replay habit design points vars instance b.items
 
 -- some text was read so
 abbrev pub IsScoringSome : BodyRow → DumpReplay → Type 0
 IsScoringSome body replay =
-    (design : Design) × (points : Points) × (vars : List Var) × (instance : List ℕ) × (text : List ℕ) × IsScoring body replay design points vars instance text
+    (habit : Habit) × (design : Design) × (points : Points) × (vars : List Var) × (instance : List ℕ) × (text : List ℕ) × IsScoring body replay habit design points vars instance text
 
 -- the same for a text that may have ended
-pub record CanEnd (body : BodyRow) (replay : DumpReplay) (design : Design) (points : Points) (vars : List Var) (instance text : List ℕ) : Type 0 where
+pub record CanEnd (body : BodyRow) (replay : DumpReplay) (habit : Habit) (design : Design) (points : Points) (vars : List Var) (instance text : List ℕ) : Type 0 where
   pub b : Body
   pub stands : BodyHasRead body text b ⊎ BodyHasEnded body text b
   pub vars_are : b.vars ≡ vars
-  pub followed : HasFollowed replay design points vars instance b.items
+  pub followed : HasFollowed replay habit design points vars instance b.items
 
 -- some text was read so
 abbrev pub CanEndSome : BodyRow → DumpReplay → Type 0
 CanEndSome body replay =
-    (design : Design) × (points : Points) × (vars : List Var) × (instance : List ℕ) × (text : List ℕ) × CanEnd body replay design points vars instance text
+    (habit : Habit) × (design : Design) × (points : Points) × (vars : List Var) × (instance : List ℕ) × (text : List ℕ) × CanEnd body replay habit design points vars instance text
 
 -- the text is a dump, and the replay was given what it says
-pub record HasScored (replay : DumpReplay) (design : Design) (points : Points) (vars : List Var) (instance text : List ℕ) : Type 0 where
+pub record HasScored (replay : DumpReplay) (habit : Habit) (design : Design) (points : Points) (vars : List Var) (instance text : List ℕ) : Type 0 where
   pub b : Body
   pub ends : EndsAs text b
   pub vars_are : b.vars ≡ vars
-  pub followed : HasFollowed replay design points vars instance b.items
+  pub followed : HasFollowed replay habit design points vars instance b.items
 
 -- the whole file was read, and the replay was given what it says, without its last word
-abbrev pub ScoresOn : List ℕ → Outside → BodyRow → DumpReplay → Design → Points → List Var → List ℕ → Type 0
-ScoresOn name before body replay design points vars instance = (text : List ℕ) × IsFile before name text × CanEnd body replay design points vars instance text
+abbrev pub ScoresOn : List ℕ → Outside → BodyRow → DumpReplay → Habit → Design → Points → List Var → List ℕ → Type 0
+ScoresOn name before body replay habit design points vars instance = (text : List ℕ) × IsFile before name text × CanEnd body replay habit design points vars instance text
 
 -- the bytes of a piece that were read and are after the header
 abbrev pub behind : Span → List ℕ → List ℕ
@@ -98,27 +99,27 @@ pub record HasOpened (name : List ℕ) (before now : Outside) (piece : List ℕ)
   pub ended : opened.span.count ≡ 0 → IsFile before name front
 
 -- the same once the design was bound
-pub record IsOpen (name : List ℕ) (before now : Outside) (piece : List ℕ) (span : Span) (body : BodyRow) (replay : DumpReplay) (design : Design) (points : Points) (vars : List Var) (instance : List ℕ) : Type 0 where
+pub record IsOpen (name : List ℕ) (before now : Outside) (piece : List ℕ) (span : Span) (body : BodyRow) (replay : DumpReplay) (habit : Habit) (design : Design) (points : Points) (vars : List Var) (instance : List ℕ) : Type 0 where
   pub front : List ℕ
   pub file : HasReadFile name before now (front ++ behind span piece)
   pub at_is : span.at ≡ length (front ++ behind span piece)
-  pub goes_on : 0 < span.count → IsScoring body replay design points vars instance front
-  pub ended : span.count ≡ 0 → IsFile before name front × CanEnd body replay design points vars instance front
+  pub goes_on : 0 < span.count → IsScoring body replay habit design points vars instance front
+  pub ended : span.count ≡ 0 → IsFile before name front × CanEnd body replay habit design points vars instance front
 
 -- at no listed time before the last a bound signal has a forced value other than the dump's
-abbrev pub AreForced : Tree → BoundDump → Type 0
-AreForced d dump = (t s : ℕ) (bits : List Bit) → IsForced d Free dump t s bits → signal_bits d (dump.values t) s ≡ bits
+abbrev pub AreForced : Habit → Tree → BoundDump → Type 0
+AreForced h d dump = (t s : ℕ) (bits : List Bit) → IsForced d h dump t s bits → signal_bits d (dump.values t) s ≡ bits
 
--- the design is bound to the dump, no forced value differs from the dump's, and the table is that of the design under the dump
-pub record IsScoreUnder (design : Design) (dump : Dump) (sources : List (List ℕ)) (instance : List ℕ) (db : Db) : Type 0 where
+-- the design is bound to the dump, no forced value differs from the dump's, and the table is that of the design with these state machines under the dump
+pub record IsScoreUnder (habit : Habit) (design : Design) (machines : List StateNames) (dump : Dump) (sources : List (List ℕ)) (instance : List ℕ) (db : Db) : Type 0 where
   pub bound : IsBound design dump instance
-  pub forced : AreForced (design_view design) (bound_dump design dump instance)
-  pub table : IsScoreTable (design_view design) Free (bound_dump design dump instance) sources db
+  pub forced : AreForced habit (design_view design) (bound_dump design dump instance)
+  pub table : IsScoreTable (design_view design) habit (bound_dump design dump instance) machines sources db
 
 -- so it is under the dump in the file
-pub record IsScoreOfFile (name : List ℕ) (before : Outside) (design : Design) (sources : List (List ℕ)) (instance : List ℕ) (db : Db) : Type 0 where
+pub record IsScoreOfFile (name : List ℕ) (before : Outside) (habit : Habit) (design : Design) (machines : List StateNames) (sources : List (List ℕ)) (instance : List ℕ) (db : Db) : Type 0 where
   pub text : List ℕ
   pub dump : Dump
   pub is : IsFile before name text
   pub is_dump : IsDump text dump
-  pub score : IsScoreUnder design dump sources instance db
+  pub score : IsScoreUnder habit design machines dump sources instance db

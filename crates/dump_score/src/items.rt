@@ -5,6 +5,7 @@ ghost use Rattle.design_model.specs.declared.design.Design.{Design as SpecDesign
 ghost use Rattle.dump_replay.specs.Faults.{IsReplayFault};
 ghost use Rattle.dump_replay.specs.Followed.{HasFollowed};
 ghost use Rattle.entry_laws.specs.Entries.{AreEntries};
+ghost use Rattle.event_machine.specs.Habit.{Habit as SpecHabit};
 ghost use Rattle.vcd_reader.specs.Times.{Rises};
 ghost use Rattle.vcd_reader.specs.Wanted.{item_by};
 ghost use Rattle.vcd_reader.specs.declared.entry.Entry.{Entry};
@@ -28,12 +29,12 @@ const LONGEST_DUMP: u64 = 1_099_511_627_776;
 /// Gives the replay what the body says, where a change is one to this value.
 pub(crate) fn say(replay: &mut DumpReplay, saying: Saying, value: &Four) -> Result<(), ReplayFault>
     requires { CanSay replay.old (item_by saying value.now) }
-    ensures ok { OnOk result ((design : SpecDesign) (points : SpecPoints) (vars : List SpecVar) (instance : List ℕ) (entries : List Entry)
+    ensures ok { OnOk result ((habit : SpecHabit) (design : SpecDesign) (points : SpecPoints) (vars : List SpecVar) (instance : List ℕ) (entries : List Entry)
         → AreEntries vars (entries ++ entries_of (item_by saying value.now)) → Rises None (entries ++ entries_of (item_by saying value.now))
-        → HasFollowed replay.old design points vars instance entries → HasFollowed replay.new design points vars instance (entries ++ entries_of (item_by saying value.now))) }
-    ensures fault { IfErr result (λ fault. (design : SpecDesign) (points : SpecPoints) (vars : List SpecVar) (instance : List ℕ) (entries : List Entry)
+        → HasFollowed replay.old habit design points vars instance entries → HasFollowed replay.new habit design points vars instance (entries ++ entries_of (item_by saying value.now))) }
+    ensures fault { IfErr result (λ fault. (habit : SpecHabit) (design : SpecDesign) (points : SpecPoints) (vars : List SpecVar) (instance : List ℕ) (entries : List Entry)
         → AreEntries vars (entries ++ entries_of (item_by saying value.now)) → Rises None (entries ++ entries_of (item_by saying value.now))
-        → HasFollowed replay.old design points vars instance entries → IsReplayFault design vars instance (entries ++ entries_of (item_by saying value.now)) fault) }
+        → HasFollowed replay.old habit design points vars instance entries → IsReplayFault habit design vars instance (entries ++ entries_of (item_by saying value.now)) fault) }
 {
     match saying {
         Saying::Time(time) => replay.open_step(time),
@@ -53,10 +54,10 @@ pub(crate) fn score_piece(
 ) -> Result<(), ScoreFault>
     requires { IsScoringSome body.old replay.old }
     ensures reads { OnOk result (IsScoringSome body.new replay.new) }
-    ensures ok { OnOk result ((design : SpecDesign) (points : SpecPoints) (vars : List SpecVar) (instance text : List ℕ) → IsScoring body.old replay.old design points vars instance text
-        → IsScoring body.new replay.new design points vars instance (text ++ piece.now)) }
-    ensures fault { IfErr result (λ fault. (design : SpecDesign) (points : SpecPoints) (vars : List SpecVar) (instance text : List ℕ) → IsScoring body.old replay.old design points vars instance text
-        → IsFoundFault design instance (text ++ piece.now) fault) }
+    ensures ok { OnOk result ((habit : SpecHabit) (design : SpecDesign) (points : SpecPoints) (vars : List SpecVar) (instance text : List ℕ) → IsScoring body.old replay.old habit design points vars instance text
+        → IsScoring body.new replay.new habit design points vars instance (text ++ piece.now)) }
+    ensures fault { IfErr result (λ fault. (habit : SpecHabit) (design : SpecDesign) (points : SpecPoints) (vars : List SpecVar) (instance text : List ℕ) → IsScoring body.old replay.old habit design points vars instance text
+        → IsFoundFault habit design instance (text ++ piece.now) fault) }
 {
     let mut used = 0;
     while used < piece.len() {
@@ -82,10 +83,10 @@ pub(crate) fn score_body<H: Host>(
     requires used { span.now.used ≤ span.now.count }
     requires count { span.now.count ≤ length piece.old }
     requires body { 0 < span.now.count → IsScoringSome body.old replay.old }
-    ensures ok { OnOk result ((name : List ℕ) (before : Outside) (design : SpecDesign) (points : SpecPoints) (vars : List SpecVar) (instance : List ℕ)
-        → IsOpen name before (H.outside host.old) piece.old span.now body.old replay.old design points vars instance → ScoresOn name before body.new replay.new design points vars instance) }
-    ensures fault { IfErr result (λ fault. (name : List ℕ) (before : Outside) (design : SpecDesign) (points : SpecPoints) (vars : List SpecVar) (instance : List ℕ)
-        → IsOpen name before (H.outside host.old) piece.old span.now body.old replay.old design points vars instance → IsScoreFault name before (H.outside host.new) design instance fault) }
+    ensures ok { OnOk result ((name : List ℕ) (before : Outside) (habit : SpecHabit) (design : SpecDesign) (points : SpecPoints) (vars : List SpecVar) (instance : List ℕ)
+        → IsOpen name before (H.outside host.old) piece.old span.now body.old replay.old habit design points vars instance → ScoresOn name before body.new replay.new habit design points vars instance) }
+    ensures fault { IfErr result (λ fault. (name : List ℕ) (before : Outside) (habit : SpecHabit) (design : SpecDesign) (points : SpecPoints) (vars : List SpecVar) (instance : List ℕ)
+        → IsOpen name before (H.outside host.old) piece.old span.now body.old replay.old habit design points vars instance → IsScoreFault name before (H.outside host.new) habit design instance fault) }
     ensures effects { OnlyReads (H.outside host.old) (H.outside host.new) }
 {
     if span.count == 0 {
@@ -108,12 +109,12 @@ pub(crate) fn score_rest<H: Host>(
     requires reading { (H.outside host.old).reading ≡ true }
     requires piece { 0 < length piece.old }
     requires body { IsScoringSome body.old replay.old }
-    ensures ok { OnOk result ((name : List ℕ) (before : Outside) (design : SpecDesign) (points : SpecPoints) (vars : List SpecVar) (instance text : List ℕ)
-        → HasReadFile name before (H.outside host.old) text → at ≡ length text → IsScoring body.old replay.old design points vars instance text
-        → ScoresOn name before body.new replay.new design points vars instance) }
-    ensures fault { IfErr result (λ fault. (name : List ℕ) (before : Outside) (design : SpecDesign) (points : SpecPoints) (vars : List SpecVar) (instance text : List ℕ)
-        → HasReadFile name before (H.outside host.old) text → at ≡ length text → IsScoring body.old replay.old design points vars instance text
-        → IsScoreFault name before (H.outside host.new) design instance fault) }
+    ensures ok { OnOk result ((name : List ℕ) (before : Outside) (habit : SpecHabit) (design : SpecDesign) (points : SpecPoints) (vars : List SpecVar) (instance text : List ℕ)
+        → HasReadFile name before (H.outside host.old) text → at ≡ length text → IsScoring body.old replay.old habit design points vars instance text
+        → ScoresOn name before body.new replay.new habit design points vars instance) }
+    ensures fault { IfErr result (λ fault. (name : List ℕ) (before : Outside) (habit : SpecHabit) (design : SpecDesign) (points : SpecPoints) (vars : List SpecVar) (instance text : List ℕ)
+        → HasReadFile name before (H.outside host.old) text → at ≡ length text → IsScoring body.old replay.old habit design points vars instance text
+        → IsScoreFault name before (H.outside host.new) habit design instance fault) }
     ensures effects { OnlyReads (H.outside host.old) (H.outside host.new) }
 {
     let mut at = at;
@@ -136,10 +137,10 @@ pub(crate) fn score_rest<H: Host>(
 /// Scores what the last word says, at the end of the file.
 pub(crate) fn score_end(body: &mut Body, replay: &mut DumpReplay) -> Result<(), ScoreFault>
     requires { CanEndSome body.old replay.old }
-    ensures ok { OnOk result ((design : SpecDesign) (points : SpecPoints) (vars : List SpecVar) (instance text : List ℕ) → CanEnd body.old replay.old design points vars instance text
-        → HasScored replay.new design points vars instance text) }
-    ensures fault { IfErr result (λ fault. (design : SpecDesign) (points : SpecPoints) (vars : List SpecVar) (instance text : List ℕ) → CanEnd body.old replay.old design points vars instance text
-        → IsEndFault design instance text fault) }
+    ensures ok { OnOk result ((habit : SpecHabit) (design : SpecDesign) (points : SpecPoints) (vars : List SpecVar) (instance text : List ℕ) → CanEnd body.old replay.old habit design points vars instance text
+        → HasScored replay.new habit design points vars instance text) }
+    ensures fault { IfErr result (λ fault. (habit : SpecHabit) (design : SpecDesign) (points : SpecPoints) (vars : List SpecVar) (instance text : List ℕ) → CanEnd body.old replay.old habit design points vars instance text
+        → IsEndFault habit design instance text fault) }
 {
     let heard = body.next_of(b"", replay.wanted())?;
     say(replay, heard.saying, body.value())?;

@@ -3,6 +3,7 @@
 ghost use Rattle.std.specs.Prelude.{◌≢◌, ℕ, List};
 ghost use Rattle.design_model.specs.declared.design.Design.{Design};
 ghost use Rattle.dump_replay.specs.replay_core.declared.fault.ReplayFault.{ReplayFault};
+ghost use Rattle.event_machine.specs.Habit.{Habit};
 ghost use Rattle.signal_binding.specs.declared.fault.BindFault.{BindFault};
 ghost use Rattle.signal_binding.specs.declared.fault.BindFault.TheVariants as bind_fault;
 ghost use Rattle.vcd_reader.specs.declared.fault.DumpFault.TheVariants as dump_fault;
@@ -13,8 +14,8 @@ ghost use Rattle.dump_score.specs.declared.fault.ScoreFault.TheVariants as score
 /// A text that is refused for its binding is refused for nothing else: neither for a fault of its header, nor for one of
 /// its body, nor for what the replay finds.
 pub fn binding_goes_first()
-    ensures fault { (design : Design) (instance text : List ℕ) (f : BindFault) (kind : DumpKind) (byte : ℕ) → f ≢ bind_fault.NoMemory
-        → IsTextFault design instance text (score_fault.Bind f) → IsTextFault design instance text (score_fault.Dump (dump_fault.At kind byte)) → ⊥ }
-    ensures replay { (design : Design) (instance text : List ℕ) (f : BindFault) (r : ReplayFault) → f ≢ bind_fault.NoMemory
-        → IsTextFault design instance text (score_fault.Bind f) → IsTextFault design instance text (score_fault.Replay r) → ⊥ }
+    ensures fault { (habit : Habit) (design : Design) (instance text : List ℕ) (f : BindFault) (kind : DumpKind) (byte : ℕ) → f ≢ bind_fault.NoMemory
+        → IsTextFault habit design instance text (score_fault.Bind f) → IsTextFault habit design instance text (score_fault.Dump (dump_fault.At kind byte)) → ⊥ }
+    ensures replay { (habit : Habit) (design : Design) (instance text : List ℕ) (f : BindFault) (r : ReplayFault) → f ≢ bind_fault.NoMemory
+        → IsTextFault habit design instance text (score_fault.Bind f) → IsTextFault habit design instance text (score_fault.Replay r) → ⊥ }
 {}

@@ -1,9 +1,11 @@
-ghost use Rattle.std.specs.Prelude.{◌<◌, IfErr, IfOk, length};
+ghost use Rattle.std.specs.Prelude.{◌<◌, All, IfErr, IfOk, List, length};
+ghost use Rattle.design_model.specs.Points.{StateNames};
 ghost use Rattle.design_model.specs.View.{design_view};
 ghost use Rattle.dump_replay.specs.design_points.Counted.{AreAllPoints};
 ghost use Rattle.dump_replay.specs.instance_paths.Rooted.{IsRooted};
 ghost use Rattle.dump_replay.specs.replay_core.Fits.{IsReplayable};
-ghost use Rattle.dump_replay.specs.table_laws.Written.{IsWritten};
+ghost use Rattle.dump_replay.specs.replay_core.wake_laws.Laws.{habit_of};
+ghost use Rattle.dump_replay.specs.table_laws.Written.{IsWritten, IsWrittenMachine};
 ghost use Rattle.whole_files.specs.Effects.{OnlyReads};
 ghost use Rattle.dump_score.specs.Faults.{IsScoreFault};
 ghost use Rattle.dump_score.specs.Scoring.{IsScoreOfFile};
@@ -16,11 +18,11 @@ use cov_host::{Host, Name, Sequence};
 use cover_points::Points;
 use coverage_db::Db;
 use design_model::Design;
-use dump_replay::{DumpReplay, score_table};
+use dump_replay::{DumpReplay, Habit, score_table};
 use std::alloc::Global;
 
-/// The database of a design without memories, which has these points and was read from these sources, under the dump in a
-/// file, in which the design is the instance.
+/// The database of a design, which has these points and was read from these sources, under the dump in a file, in which the
+/// design is the instance and its inputs move by this habit.
 ///
 /// The file is opened once and read in pieces of 65,536 bytes. All room is made before the body is read, apart from
 /// the database's own. A fault of the text is reported as soon as it is read: one of the dump at its byte, and one of the
@@ -33,13 +35,15 @@ pub fn score_dump<H: Host>(
     points: &Points,
     sources: Sequence<Name>,
     instance: &str,
+    habit: Habit,
 ) -> Result<Db, ScoreFault>
     requires replayable { IsReplayable (design_view design.now) points.now }
-    requires points { AreAllPoints (design_view design.now) points.now }
+    requires points { (machines : List StateNames) × AreAllPoints (design_view design.now) machines points.now }
+    requires named { All IsWrittenMachine points.now.machines.items }
     requires written { IsWritten sources (design_view design.now) }
     requires rooted { IsRooted (design_view design.now) }
-    ensures scored { IfOk result (IsScoreOfFile name.now (H.outside host.old) design.now sources instance.now) }
-    ensures fault { IfErr result (IsScoreFault name.now (H.outside host.old) (H.outside host.new) design.now instance.now) }
+    ensures scored { (machines : List StateNames) → AreAllPoints (design_view design.now) machines points.now → IfOk result (IsScoreOfFile name.now (H.outside host.old) (habit_of habit) design.now machines sources instance.now) }
+    ensures fault { IfErr result (IsScoreFault name.now (H.outside host.old) (H.outside host.new) (habit_of habit) design.now instance.now) }
     ensures effects { OnlyReads (H.outside host.old) (H.outside host.new) }
 {
     let mut piece = room(alloc)?;
@@ -52,6 +56,7 @@ pub fn score_dump<H: Host>(
         points,
         sources,
         instance,
+        habit,
     )
 }
 
@@ -65,19 +70,21 @@ fn score_file<H: Host>(
     points: &Points,
     sources: Sequence<Name>,
     instance: &str,
+    habit: Habit,
 ) -> Result<Db, ScoreFault>
     requires replayable { IsReplayable (design_view design.now) points.now }
-    requires points { AreAllPoints (design_view design.now) points.now }
+    requires points { (machines : List StateNames) × AreAllPoints (design_view design.now) machines points.now }
+    requires named { All IsWrittenMachine points.now.machines.items }
     requires written { IsWritten sources (design_view design.now) }
     requires rooted { IsRooted (design_view design.now) }
     requires piece { 0 < length piece.old }
-    ensures scored { IfOk result (IsScoreOfFile name.now (H.outside host.old) design.now sources instance.now) }
-    ensures fault { IfErr result (IsScoreFault name.now (H.outside host.old) (H.outside host.new) design.now instance.now) }
+    ensures scored { (machines : List StateNames) → AreAllPoints (design_view design.now) machines points.now → IfOk result (IsScoreOfFile name.now (H.outside host.old) (habit_of habit) design.now machines sources instance.now) }
+    ensures fault { IfErr result (IsScoreFault name.now (H.outside host.old) (H.outside host.new) (habit_of habit) design.now instance.now) }
     ensures effects { OnlyReads (H.outside host.old) (H.outside host.new) }
 {
     open(host, name)?;
     let mut opened = read_header(alloc, host, piece)?;
-    let mut replay = DumpReplay::new(alloc, design, points, &opened.vars, instance)?;
+    let mut replay = DumpReplay::new(alloc, habit, design, points, &opened.vars, instance)?;
     let span = opened.span;
     score_body(host, piece, &span, &mut opened.body, &mut replay)?;
     score_end(&mut opened.body, &mut replay)?;

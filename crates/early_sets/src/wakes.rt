@@ -18,7 +18,6 @@ use wake_tables::WakeTables;
 
 /// The sets of a step: which signals and memories may move, which processes can wake, and what is early for a clean
 /// block.
-#[derive(Drop)]
 pub struct Wakes {
     tables: WakeTables,
     /// The inputs whose changes are never told.
@@ -39,6 +38,25 @@ pub struct Wakes {
     early_woken: IndexSet,
     ghost sizes: { AreSizes tables changes.told.items untold.items writers.items noted ready rounds.items moves woken early early_woken },
     ghost once: { AreOnce noted moves woken early },
+}
+
+// Written out so that a crate which lets one go does not prove again how each of its parts is let go.
+impl Drop for Wakes {
+    fn drop(self) {
+        let Wakes {
+            tables: _,
+            untold: _,
+            writers: _,
+            changes: _,
+            noted: _,
+            ready: _,
+            rounds: _,
+            moves: _,
+            woken: _,
+            early: _,
+            early_woken: _,
+        } = self;
+    }
 }
 
 impl Wakes {

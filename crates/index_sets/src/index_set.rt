@@ -8,7 +8,6 @@ use std::marker::Model;
 
 /// A set of numbers below a size, which keeps the order in which they were put in. A look-up, an insertion and `clear`
 /// take the same time whatever the size is, and no memory.
-#[derive(Drop)]
 pub struct IndexSet {
     /// Each number below the size once: first the members, then the others.
     order: Vec<usize>,
@@ -16,6 +15,17 @@ pub struct IndexSet {
     places: Vec<usize>,
     /// How many members there are.
     used: usize,
+}
+
+// Written out so that a crate which lets one go does not prove again how each of its parts is let go.
+impl Drop for IndexSet {
+    fn drop(self) {
+        let IndexSet {
+            order: _,
+            places: _,
+            used: _,
+        } = self;
+    }
 }
 
 impl Model for IndexSet {

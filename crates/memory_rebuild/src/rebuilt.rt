@@ -15,7 +15,6 @@ use std::marker::Model;
 
 /// The words of a memory that are partly known. The words are kept by epochs: one that was not written in the current
 /// epoch is unknown, so that all words are made unknown by one addition.
-#[derive(Drop)]
 pub struct Rebuilt {
     shape: Shape,
     words: Vec<Word>,
@@ -23,6 +22,18 @@ pub struct Rebuilt {
     epoch: u64,
     /// The places of the words that were written in the current epoch.
     written: Vec<usize>,
+}
+
+// Written out so that a crate which lets one go does not prove again how each of its parts is let go.
+impl Drop for Rebuilt {
+    fn drop(self) {
+        let Rebuilt {
+            shape: _,
+            words: _,
+            epoch: _,
+            written: _,
+        } = self;
+    }
 }
 
 impl Model for Rebuilt {

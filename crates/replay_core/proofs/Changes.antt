@@ -83,6 +83,8 @@ given_ready d points x r s phase code v values fits is closed none width =
           known = state.known;
           acted = state.acted;
           seen = state.seen;
+          machines = state.machines;
+          few_machines = state.few_machines;
           noted = state.noted;
           marks = state.marks;
           rows = state.rows ∙ sym (ap length is ∙ length-set last code (Some v));
@@ -90,10 +92,11 @@ given_ready d points x r s phase code v values fits is closed none width =
           wide_closed = subst (AreWideValues d codes) (sym closed) state.wide_closed;
           unsigned = subst AreUnsigned (sym is) (unsigned_after d codes last code v none state.unsigned);
         };
+        words = fits.parts.words;
       };
       none = fits.none;
       none_clocked = fits.none_clocked;
-      untouched = λ new. let u = fits.untouched new in record { knows = u.knows; acted = u.acted; marks = u.marks; seen = u.seen };
+      untouched = λ new. let u = fits.untouched new in record { knows = u.knows; words = u.words; acted = u.acted; marks = u.marks; seen = u.seen; told = u.told };
       begun = λ started. subst (HaveValues codes) (sym is) (λ y. lacks_after d codes last code v (slice_index_or codes y None) (fits.begun started y));
       closed = λ started. subst (HaveValues codes) (sym closed) (fits.closed started);
       refused = fits.refused;

@@ -4,7 +4,6 @@ use Rattle.cover_points.specs.declared.listing.Points.{Points}
 use Rattle.design_model.specs.Design.{Design}
 use Rattle.design_model.specs.Shows.{BoundDump, IsListed, IsWindow}
 use Rattle.dump_check.specs.declared.order.Difference.{Difference}
-use Rattle.replay_follows.specs.Follows.{Follows}
 use Rattle.replay_follows.proofs.Steps.{nexts}
 use Rattle.first_step.specs.step_changes.Changes.{AreUnsigned}
 use Rattle.first_step.specs.step_values.Dumped.{AreDumped}
@@ -13,7 +12,7 @@ use Rattle.replay_core.specs.Closing.{Closes, Counts, ForDue, IsDueAt, Refutes}
 use Rattle.replay_core.specs.Faults.{IsContradiction, fault_at, phase_after}
 use Rattle.replay_core.specs.Fits.{FitsParts, FitsReplay, HaveValues, IsReplayable, signal_of}
 use Rattle.replay_core.specs.Followed.{AreGivenAt, HasFollowed, IsNextStep}
-use Rattle.replay_core.specs.Made.{IsDumpFor, Made, subject_of}
+use Rattle.replay_core.specs.Made.{HasFollows, IsDumpFor, Made, subject_of}
 use Rattle.replay_core.specs.Parts.{HasRefused, IsReady, IsStarted, given_of, made_of, parts_of}
 use Rattle.replay_core.specs.Steps.{CountsSensitive}
 use Rattle.replay_core.specs.declared.fault.Phase.{Phase}
@@ -31,11 +30,11 @@ module _ (x : Replay) (dump : BoundDump) (t time : ℕ) (unsigned : AreUnsigned 
   pub is_due : (before : ℕ) × (time ≡ suc before) × IsDueAt (subject_of (made_of x) dump) before followed.replay (parts_of x)
   is_due =
       let m = made_of x in
-      let n = nexts (subject_of m dump) t time followed.replay (parts_of x) next.later next.window next.between followed.follows in (
+      let n = nexts (subject_of m dump) t time followed.replay (parts_of x).parts next.later next.window next.between followed.follows.parts in (
         n.0,
         n.1,
         record {
-          follows = n.2;
+          follows = record { parts = n.2; words = followed.follows.words };
           given = record {
             round = followed.dumped.round (suc n.0);
             last = subst (λ u. AreDumped m.design m.codes (given_of x) (dump.values u)) n.1 given;
@@ -53,12 +52,12 @@ module _ (x : Replay) (dump : BoundDump) (t time : ℕ) (unsigned : AreUnsigned 
   -- after it the dump is followed up to its end
   pub followed_next : (y : Replay) → made_of y ≡ made_of x → IsStarted y → Closes (made_of x) time (parts_of x) (parts_of y) → HasFollowed y dump time
   followed_next y same started closes =
-      let b = for_next (λ e u. (b : Rattle.replay_model.specs.Step.Replay) × Follows (subject_of (made_of x) e) u b (parts_of y)) closes in
+      let b = for_next (λ e u. (b : Rattle.replay_model.specs.Step.Replay) × HasFollows (subject_of (made_of x) e) u b (parts_of y)) closes in
       record {
         dumped = subst (λ m. IsDumpFor m dump) (sym same) followed.dumped;
         started = started;
         replay = b.0;
-        follows = subst (λ m. Follows (subject_of m dump) time b.0 (parts_of y)) (sym same) b.1;
+        follows = subst (λ m. HasFollows (subject_of m dump) time b.0 (parts_of y)) (sym same) b.1;
       }
 
 -- at most as many bodies run in it as processes mention or list what may move

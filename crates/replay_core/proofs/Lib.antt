@@ -4,6 +4,7 @@ pub mod Given
 pub mod Untouched
 pub mod Sets
 pub mod Parts
+pub mod Words
 pub mod Closing
 pub mod Woken
 pub mod Starting

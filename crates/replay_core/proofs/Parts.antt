@@ -1,6 +1,6 @@
 -- The parts of a replay fit its design before and after each call.
-use Rattle.std.proofs.Common.{◌≡◌, ◌∙◌, ℕ, ◌+◌, ◌<◌, ◌≤◌, Bool, true, ◌++◌, List, [], length, Option, Some, None, inl, inr, refl, sym, ap, subst, arith}
-use Rattle.std.specs.Prelude.{nat_lt, replicate, slice_index_or}
+use Rattle.std.proofs.Common.{◌≡◌, ◌∙◌, ℕ, ◌+◌, ◌<◌, ◌≤◌, ◌^◌, Bool, true, ◌++◌, List, [], length, Option, Some, None, inl, inr, refl, sym, ap, ap₂, subst, arith}
+use Rattle.std.specs.Prelude.{◌-◌, ◌&&◌, nat_le, nat_lt, replicate, slice_index_or}
 use Rattle.std.proofs.lemmas.Bool.{cases_Bool}
 use Rattle.std.proofs.lemmas.Bool.Decides.{nat_tests}
 use Rattle.std.proofs.lemmas.List.{get_or-replicate, get_or_past, length-replicate}
@@ -22,6 +22,7 @@ use Rattle.early_sets.specs.WakeState.{WakeState, state_of}
 use Rattle.first_step.specs.step_changes.Changes.{AreUnsigned}
 use Rattle.dump_check.specs.Checks.{Checks}
 use Rattle.index_sets.specs.Rows.{row_at}
+use Rattle.machine_index.specs.Index.{IsIndexOf}
 use Rattle.first_step.specs.settling.declared.parts.Scratch.{Scratch}
 use Rattle.step_start.specs.Fits.{FitsStep}
 use Rattle.first_step.specs.step_values.Vectors.{FitsSignals, StepVectors as StepValues}
@@ -31,7 +32,11 @@ use Rattle.first_step.specs.step_values.Dumped.{AreDumped}
 use Rattle.first_step.specs.store_knowledge.Knows.{Knows}
 use Rattle.wake_laws.specs.Laws.{HasNoWriters}
 use Rattle.replay_core.specs.Codes.{flags_of}
-use Rattle.replay_core.specs.Fits.{AreWideValues, FitsParts, FitsReplay, FitsRoom, FitsState, FitsTables, HaveValues, IsReplayable, IsUntouched}
+use Rattle.step_words.specs.Words.{FitsRanges, StepState}
+use Rattle.written_words.specs.Same.{FollowsAll}
+use Rattle.written_words.specs.Written.{WrittenState, in_range, range_at}
+use Rattle.written_words.specs.declared.range.WordRange.{WordRange}
+use Rattle.replay_core.specs.Fits.{AreWideValues, FitsParts, FitsReplay, FitsRoom, FitsState, FitsTables, FitsWords, HaveValues, IsReplayable, IsUntouched}
 use Rattle.replay_core.specs.declared.fault.Phase.TheVariants.{New, Refused, Started}
 use Rattle.replay_core.specs.declared.fault.ReplayFault.{ReplayFault}
 use Rattle.replay_core.specs.declared.room.ReplayRoom.{ReplayRoom}
@@ -44,6 +49,29 @@ use Rattle.replay_core.proofs.Sets.{of_design_early}
 -- only signals of the design have a code
 pub coded : (d : Design) (x : ReplayTables) → FitsTables d x → (s : ℕ) → Rattle.first_step.specs.step_values.Loose.has_code x.step.codes.items s ≡ true → s < length d.signals
 coded d x fits s h = let below = coded_below x.step.codes.items s h in let size = fits.codes in omega (arith, below, size)
+
+-- ---- the words
+
+abbrev followed_by : ℕ → List WordRange → ℕ → ℕ → Bool
+followed_by first ranges m i = nat_le first m && in_range (range_at ranges (m - first)) i
+
+-- the same words are followed, whichever are written
+pub words_kept : (d : Design) (x : ReplayTables) (w v : WrittenState) (y z : StepState) → FitsWords d x w y → v.first ≡ w.first → v.ranges ≡ w.ranges → FitsRanges d v.ranges z → FitsWords d x v z
+words_kept d x w v y z fits first ranges sized = record {
+  first = first ∙ fits.first;
+  ranges = sized;
+  followed = λ p m i memory j among. ap₂ (λ f rs. followed_by f rs m j) first ranges ∙ fits.followed p m i memory j among;
+}
+
+-- and the same is known of them
+pub words_same : (d : Design) (x : ReplayTables) (w v : WrittenState) (y z : StepState) → FitsWords d x w y → v.first ≡ w.first → v.ranges ≡ w.ranges → z ≡ y → FitsWords d x v z
+words_same d x w v y z fits first ranges same = words_kept d x w v y z fits first ranges (subst (FitsRanges d v.ranges) (sym same) (subst (λ rs. FitsRanges d rs y) (sym ranges) fits.ranges))
+
+-- ---- all parts
+
+-- the parts fit equal designs and points
+pub fits_same : (d e : Design) (ps qs : Points) (x : ReplayTables) (r : ReplayRoom) (s : ReplayState) → d ≡ e → ps ≡ qs → FitsParts d ps x r s → FitsParts e qs x r s
+fits_same d e ps qs x r s design points fits = subst (λ a. FitsParts a qs x r s) design (subst (λ qs. FitsParts d qs x r s) points fits)
 
 -- what a step begins with
 pub fits_step : (d : Design) (points : Points) (x : ReplayTables) (r : ReplayRoom) (s : ReplayState) → IsLawfulDesign d → FitsParts d points x r s → FitsStep d x.step r.step s.values
@@ -103,7 +131,7 @@ room_begun d x r n given fits writers inputs room = record {
   checks = room.checks;
 }
 
--- all three after the first step
+-- all after the first step
 pub first_fits : (d : Design) (points : Points) (x : ReplayTables) (r : ReplayRoom) (s : ReplayState) (v : StepValues) (scratch : Scratch) (ran : Queue ℕ) (checks : Checks) (values : Values) (store : Store) (k : Kept) → FitsParts d points x r s → FitsSignals d v
     → length scratch.saved ≡ length r.scratch.saved → scratch.pieces ≡ r.scratch.pieces → ran.room ≡ r.ran.room → checks.size ≡ r.checks.size → Knows d k store → values.last ≡ s.values.last → values.closed ≡ s.values.last
     → FitsParts d points x (record r { step = record r.step { values = v }; scratch = scratch; ran = ran; checks = checks }) (record s { values = values; store = store })
@@ -134,6 +162,8 @@ first_fits d points x r s v scratch ran checks values store k fits wide saved pi
         known = knows;
         acted = state.acted;
         seen = state.seen;
+        machines = state.machines;
+        few_machines = state.few_machines;
         noted = state.noted;
         marks = state.marks;
         rows = state.rows ∙ sym (ap length last);
@@ -141,12 +171,14 @@ first_fits d points x r s v scratch ran checks values store k fits wide saved pi
         wide_closed = subst (AreWideValues d x.step.codes.items) (sym closed) state.wide;
         unsigned = subst AreUnsigned (sym last) state.unsigned;
       };
+      words = fits.words;
     }
 
--- all three once the processes have run
-pub run_fits : (d : Design) (points : Points) (x : ReplayTables) (r q : ReplayRoom) (s u : ReplayState) (k : Kept) → FitsParts d points x r s → FitsRoom d x q → Knows d k u.store → length u.acted.items ≡ length s.acted.items → length u.seen ≡ length s.seen
-    → u.notes.points.now ≡ s.notes.points.now → AreMarksOf points u.notes.marks → u.values.last ≡ s.values.last → AreWideValues d x.step.codes.items u.values.closed → FitsParts d points x q u
-run_fits d points x r q s u k fits room knows acted seen noted marks last wide =
+-- all once the processes have run
+pub run_fits : (d : Design) (points : Points) (x : ReplayTables) (r q : ReplayRoom) (s u : ReplayState) (k : Kept) → FitsParts d points x r s → FitsRoom d x q → Knows d k u.store → length u.acted.items ≡ length s.acted.items → length u.seen ≡ length s.seen → u.machines.index ≡ s.machines.index
+    → u.notes.points.now ≡ s.notes.points.now → AreMarksOf points u.notes.marks → u.values.last ≡ s.values.last → AreWideValues d x.step.codes.items u.values.closed
+    → FitsWords d x u.notes.written q.words → FitsParts d points x q u
+run_fits d points x r q s u k fits room knows acted seen index noted marks last wide words =
     let state = fits.state in
     record {
       tables = fits.tables;
@@ -156,6 +188,8 @@ run_fits d points x r q s u k fits room knows acted seen noted marks last wide =
         known = knows;
         acted = acted ∙ state.acted;
         seen = seen ∙ state.seen;
+        machines = subst (λ i. IsIndexOf points.machines.items (length d.signals) i) (sym index) state.machines;
+        few_machines = state.few_machines;
         noted = noted ∙ state.noted;
         marks = marks;
         rows = state.rows ∙ sym (ap length last);
@@ -163,7 +197,29 @@ run_fits d points x r q s u k fits room knows acted seen noted marks last wide =
         wide_closed = wide;
         unsigned = subst AreUnsigned (sym last) state.unsigned;
       };
+      words = words;
     }
+
+-- the room once the words that are written have been compared
+pub room_compared : (d : Design) (x : ReplayTables) (r : ReplayRoom) (words : StepState) → FitsRoom d x r → FitsRoom d x (record r { words = words })
+room_compared d x r words room = record {
+  changed = room.changed;
+  changes = room.changes;
+  sets = room.sets;
+  writers = room.writers;
+  list = room.list;
+  clocked = room.clocked;
+  overwritten = room.overwritten;
+  running = room.running;
+  later = room.later;
+  none_later = room.none_later;
+  values = room.values;
+  saved = room.saved;
+  empty = room.empty;
+  pieces = room.pieces;
+  ran = room.ran;
+  checks = room.checks;
+}
 
 none_given : (count code : ℕ) → value_of (replicate count None) code ≡ None
 none_given count code = elim (cases_Bool (nat_lt code count)) [
@@ -186,9 +242,9 @@ pub count_is : (values : Values) (count : ℕ) → values ≡ no_values count �
 count_is values count is = ap (λ (v : Values). length v.last) is ∙ length-replicate count None
 
 -- a new replay fits
-pub new_ready : (d : Design) (points : Points) (x : ReplayTables) (r : ReplayRoom) (s : ReplayState) (count : ℕ) → IsReplayable d points → FitsTables d x → FitsRoom d x r → r.step.list.pairs ≡ [] → r.step.clocked.pairs ≡ [] → IsUntouched d points s → s.values ≡ no_values count → length x.step.signals ≡ count
-    → length s.acted.items ≡ length d.processes → length s.seen ≡ length d.signals → s.notes.points.now ≡ points → AreMarksOf points s.notes.marks → FitsReplay d s.notes.points.now x r s New
-new_ready d points x r s count replayable tables room none none_clocked untouched values size acted seen noted marks = subst (λ ps. FitsReplay d ps x r s New) (sym noted) (record {
+pub new_ready : (d : Design) (points : Points) (x : ReplayTables) (r : ReplayRoom) (s : ReplayState) (count : ℕ) → IsReplayable d points → FitsTables d x → FitsRoom d x r → r.step.list.pairs ≡ [] → r.step.clocked.pairs ≡ [] → IsUntouched d points r s → FitsWords d x s.notes.written r.words → s.values ≡ no_values count → length x.step.signals ≡ count
+    → length s.acted.items ≡ length d.processes → length s.seen ≡ length d.signals → IsIndexOf points.machines.items (length d.signals) s.machines.index → length points.machines.items ≤ 2 ^ 32 → s.notes.points.now ≡ points → AreMarksOf points s.notes.marks → FitsReplay d s.notes.points.now x r s New
+new_ready d points x r s count replayable tables room none none_clocked untouched words values size acted seen machines few noted marks = subst (λ ps. FitsReplay d ps x r s New) (sym noted) (record {
   replayable = replayable;
   parts = record {
     tables = tables;
@@ -198,6 +254,8 @@ new_ready d points x r s count replayable tables room none none_clocked untouche
       known = untouched.knows;
       acted = acted;
       seen = seen;
+      machines = machines;
+      few_machines = few;
       noted = noted;
       marks = marks;
       rows = size ∙ sym (count_is s.values count values);
@@ -205,6 +263,7 @@ new_ready d points x r s count replayable tables room none none_clocked untouche
       wide_closed = λ y code v coded is. absurd (no_some (sym (none_closed s.values count code values) ∙ is));
       unsigned = λ code v is. absurd (no_some (sym (no_value s.values count code values) ∙ is));
     };
+    words = words;
   };
   none = none;
   none_clocked = none_clocked;
@@ -223,7 +282,7 @@ new_ready d points x r s count replayable tables room none none_clocked untouche
     new_refused : (fault : ReplayFault) → New ≡ Refused fault → ⊥
     new_refused fault e = cc
 
--- all three once a step has begun
+-- all once a step has begun
 pub begun_fits : (d : Design) (points : Points) (x : ReplayTables) (r : ReplayRoom) (s : ReplayState) (n : StepRoom) (store : Store) (k : Kept) → FitsParts d points x r s → FitsStep d x.step n s.values → (state_of n.sets).writers ≡ (state_of r.step.sets).writers
     → ((flags : List Bool) → Rattle.first_step.specs.step_wakes.Step.IsOfDesign d flags (state_of r.step.sets) → Rattle.first_step.specs.step_wakes.Step.IsOfDesign d flags (state_of n.sets)) → Knows d k store → FitsParts d points x (record r { step = n }) (record s { store = store })
 begun_fits d points x r s n store k fits step writers inputs knows =
@@ -236,6 +295,8 @@ begun_fits d points x r s n store k fits step writers inputs knows =
         known = knows;
         acted = state.acted;
         seen = state.seen;
+        machines = state.machines;
+        few_machines = state.few_machines;
         noted = state.noted;
         marks = state.marks;
         rows = state.rows;
@@ -243,6 +304,7 @@ begun_fits d points x r s n store k fits step writers inputs knows =
         wide_closed = state.wide_closed;
         unsigned = state.unsigned;
       };
+      words = fits.words;
     }
 
 -- so they are after the call that begins it

@@ -10,11 +10,9 @@ use Rattle.cover_marks.specs.Marks.{AreMarksOf}
 use Rattle.cover_points.specs.Listed.{points_of}
 use Rattle.cover_points.specs.declared.listing.Points.{Points}
 use Rattle.design_model.specs.Design.{Design}
-use Rattle.design_model.specs.Points.{IsPoint, StateNames}
 use Rattle.design_model.specs.Shows.{BoundDump, IsFirst, IsShown}
-use Rattle.design_model.specs.declared.point.Point.{Point}
-use Rattle.design_model.specs.declared.point.Point.TheVariants.{Arc as arc_point}
 use Rattle.early_sets.specs.declared.habit.Habit.{Habit}
+use Rattle.machine_laws.proofs.Arcs.{arcs_apart}
 use Rattle.process_order.specs.Tables.{tables_of}
 use Rattle.replay_follows.specs.Follows.{Follows, IsSubject, Parts, Subject}
 use Rattle.replay_follows.specs.Laws.{first_replay}
@@ -34,19 +32,20 @@ use Rattle.first_step.specs.Begun.{IsFirstOf}
 use Rattle.replay_core.specs.Codes.{flags_of}
 use Rattle.replay_core.specs.Fits.{FitsTables, IsReplayable, IsUntouched}
 use Rattle.replay_core.specs.Made.{IsDumpFor, Made, made_with, subject_of}
+use Rattle.replay_core.specs.declared.room.ReplayRoom.{ReplayRoom}
 use Rattle.replay_core.specs.declared.state.ReplayState.{ReplayState}
 use Rattle.replay_core.specs.declared.tables.ReplayTables.{ReplayTables}
 use Rattle.replay_core.specs.Faults.{IsRefuted}
 use Rattle.replay_core.proofs.Closing.{dumped_is}
 use Rattle.replay_core.proofs.Codes.{flags_are}
 use Rattle.replay_core.proofs.Parts.{coded}
+use Rattle.replay_core.proofs.Words.{words_stay}
+use Rattle.body_store.specs.Made.{nothing}
+use Rattle.step_runs.specs.Laws.{FirstWordsLaw}
+use Rattle.step_words.specs.Words.{HasWords}
 use Rattle.dump_check.specs.Checks.{IsDifference}
 use Rattle.dump_check.specs.declared.order.Difference.{Difference}
 use Rattle.known_state.specs.Partly.{Partly}
-
--- without state machines there are no arcs
-no_machine : (d : Design) (i : ℕ) (name : List ℕ) (s : ℕ) (from to : List ℕ) (x y : Vector) → IsPoint d [] (arc_point i name s from to x y) → ⊥
-no_machine d i name s from to x y is = is.1
 
 module _ (d : Design) (h : Habit) (points : Points) (x : ReplayTables) (replayable : IsReplayable d points) (runs : AreRuns d (runs_of d)) (fits : FitsTables d x) where
   abbrev m : Made
@@ -59,10 +58,11 @@ module _ (d : Design) (h : Habit) (points : Points) (x : ReplayTables) (replayab
       fits = of.fits;
       runs = runs;
       tabled = subst (λ bound. AreTables d bound m.tables) (sym (fun_ext of.bound)) fits.tabled;
-      listed = λ p i. ([], (replayable.listed.members p).0 i);
-      arcs = λ i name s from to y z at. absurd (no_machine d i name s from to y z ((replayable.listed.members (arc_point i name s from to y z)).0 at));
+      listed = λ p i. (replayable.machines, (replayable.listed.members p).0 i);
+      arcs = λ i name s from to y z at. arcs_apart d replayable.machines points i name s from to y z replayable.listed at;
     };
     wakes = replayable.own_wakes;
+    machines = replayable.machines;
     listed = replayable.listed;
     apart = replayable.apart;
     once = replayable.once;
@@ -74,14 +74,14 @@ module _ (d : Design) (h : Habit) (points : Points) (x : ReplayTables) (replayab
 
   module _ (dump : BoundDump) (t : ℕ) (of : IsDumpFor m dump) (first : IsFirst dump t) (shown : IsShown dump t) where
     -- what the store knew before the step is what the definition starts from
-    pub is_first : (s : ReplayState) → IsUntouched d points s → AreDumped d m.codes s.values.last (dump.values t) → IsFirstOf d dump.bound (dump.values t) m.codes s.values.last s.store
-    is_first s untouched given = record { bound = of.bound; dumped = given; knows = untouched.knows }
+    pub is_first : (r : ReplayRoom) (s : ReplayState) → IsUntouched d points r s → AreDumped d m.codes s.values.last (dump.values t) → IsFirstOf d dump.bound (dump.values t) m.codes s.values.last s.store
+    is_first r s untouched given = record { bound = of.bound; dumped = given; knows = untouched.knows }
 
     -- where nothing contradicts the step the dump is followed up to its first time
-    pub starts_at : (s : ReplayState) (y : Parts) → IsUntouched d points s → AreMarksOf points s.notes.marks → AreUnsigned s.values.last → AreDumped d m.codes s.values.last (dump.values t)
-        → y.values.closed ≡ s.values.last → y.acted ≡ s.acted.items → y.marks ≡ s.notes.marks → y.seen ≡ s.seen → IsOfDesign d (flags_of m.codes) y.sets → HasNoWriters y.sets
+    pub starts_at : (r : ReplayRoom) (s : ReplayState) (y : Parts) → IsUntouched d points r s → AreMarksOf points s.notes.marks → AreUnsigned s.values.last → AreDumped d m.codes s.values.last (dump.values t)
+        → y.values.closed ≡ s.values.last → y.acted ≡ s.acted.items → y.marks ≡ s.notes.marks → y.seen ≡ s.seen → y.told ≡ s.machines.told → IsOfDesign d (flags_of m.codes) y.sets → HasNoWriters y.sets
         → Knows d (first_replay (subject_of m dump) t).kept y.store → ((c : Cell) → contradicts_first d dump.bound (runs_of d) m.tables (dump.values t) c ≡ false) → Follows (subject_of m dump) t (first_replay (subject_of m dump) t) y
-    starts_at s y untouched marks unsigned given values acted same seen sets writers knows none =
+    starts_at r s y untouched marks unsigned given values acted same seen told sets writers knows none =
         starts (subject_of m dump) t y (is_subject dump of) first shown sets writers
         (subst (λ vs. AreDumped d m.codes vs (dump.values t)) (sym values) given)
         (subst AreUnsigned (sym values) unsigned)
@@ -95,7 +95,12 @@ module _ (d : Design) (h : Habit) (points : Points) (x : ReplayTables) (replayab
           points = marks;
           marks = untouched.marks;
           seen = untouched.seen;
-        }))))
+        })))) (told ∙ untouched.told)
+
+    -- and nothing is known of a word
+    pub starts_words : (r : ReplayRoom) (s : ReplayState) → IsUntouched d points r s → FirstWordsLaw → HasWords d (first_replay (subject_of m dump) t).kept s.notes.written.ranges r.words
+    starts_words r s untouched law =
+        words_stay d nothing (first_replay (subject_of m dump) t).kept s.notes.written.ranges r.words (λ c is. law d dump.bound (runs_of d) m.tables (dump.values t) c replayable.lawful (is_subject dump of).is.tabled is) untouched.words
 
     -- where some bit contradicts it no run shows the dump
     pub refuted_at : (c : Cell) (last : List (Option Vector)) (found : Difference) (made : List Partly) → AreDumped d m.codes last (dump.values t) → contradicts_first d dump.bound (runs_of d) m.tables (dump.values t) c ≡ true

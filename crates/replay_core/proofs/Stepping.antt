@@ -11,7 +11,7 @@ use Rattle.code_values.specs.Values.{Values}
 use Rattle.cover_marks.specs.Marks.{AreMarksOf}
 use Rattle.cover_marks.specs.declared.marks.Marks.{Marks}
 use Rattle.cover_points.specs.declared.listing.Points.{Points}
-use Rattle.design_model.specs.Design.{AreDistinct, Design, In, IsClocked, process_at}
+use Rattle.design_model.specs.Design.{AreDistinct, Design, In, IsClocked, is_memory, process_at}
 use Rattle.design_model.specs.Lawful.{IsLawfulDesign}
 use Rattle.design_model.specs.Shows.{BoundDump}
 use Rattle.design_model.specs.View.{design_view}
@@ -26,7 +26,6 @@ use Rattle.first_step.specs.store_knowledge.Knows.{Knows}
 use Rattle.index_sets.specs.Rows.{row_at}
 use Rattle.process_order.proofs.Distinct.{contains_in, distinct_both, in_either, in_filter}
 use Rattle.process_order.specs.Tables.{tables_of}
-use Rattle.replay_follows.specs.Follows.{Parts}
 use Rattle.replay_follows.specs.Laws.{due_at}
 use Rattle.replay_model.proofs.Order.{distinct_apart}
 use Rattle.replay_model.specs.Step.{Closing, Replay, all_run, clocked_run, settle_start}
@@ -37,6 +36,9 @@ use Rattle.run_order.specs.Ranked.{AreRanksOf}
 use Rattle.step_clocked.proofs.Listed.{all_listed}
 use Rattle.step_clocked.specs.Runs.{AreClockedOf, HasWoken, IsClockedStep, is_woken}
 use Rattle.step_marks.specs.Marked.{IsOver, IsSeenAfter}
+use Rattle.step_machines.specs.Marked.{IsOver as IsMachineStep}
+use Rattle.machine_laws.specs.Followed.{MarksMachines}
+use Rattle.cover_marks.specs.declared.marks.Marks.{Marks}
 use Rattle.step_start.specs.Fits.{FitsStep}
 use Rattle.step_start.specs.Settles.{ForRun}
 use Rattle.step_start.specs.step_parts.AtStep.{AtStep}
@@ -52,17 +54,24 @@ use Rattle.wake_laws.specs.Laws.{HasNoWriters}
 use Rattle.wake_list.specs.Members.{has}
 use Rattle.replay_core.specs.Closing.{Closes, Counts, IsDueAt, Refutes}
 use Rattle.replay_core.specs.Codes.{flags_of}
-use Rattle.replay_core.specs.Fits.{FitsParts, FitsRoom, FitsTables}
-use Rattle.replay_core.specs.Made.{Made, made_with, parts_with, subject_of}
+use Rattle.replay_core.specs.Fits.{FitsParts, FitsRoom, FitsTables, FitsWords}
+use Rattle.replay_core.specs.Made.{Following, Made, made_with, parts_with, subject_of}
 use Rattle.replay_core.specs.Steps.{IsSensitive}
 use Rattle.replay_core.specs.declared.room.ReplayRoom.{ReplayRoom}
 use Rattle.replay_core.specs.declared.state.ReplayState.{ReplayState}
 use Rattle.replay_core.specs.declared.tables.ReplayTables.{ReplayTables}
-use Rattle.replay_core.proofs.Closing.{begun_refuted, due_step, followed, has_run, is_over, listed_distinct, listed_sensitive, run_is, run_refuted}
+use Rattle.replay_core.proofs.Closing.{begun_refuted, due_step, followed, has_run, is_over, listed_distinct, listed_sensitive, machines_over, run_is, run_refuted}
 use Rattle.replay_core.proofs.Orders.{all_named, settles_in}
 use Rattle.replay_core.proofs.Parts.{begin_fits, begun_fits}
 use Rattle.replay_core.proofs.Sets.{found_early, run_early}
 use Rattle.replay_core.proofs.Woken.{clocked_of, clocked_step, have_run, woken_sensitive}
+use Rattle.replay_core.proofs.Words.{watched_changes, words_stay}
+use Rattle.first_step.specs.settling.Wakes.{HasWordChanges}
+use Rattle.step_runs.specs.Laws.{KeptWordsLaw, WordsLaw}
+use Rattle.first_step.specs.step_values.Starts.{left_by_clocked}
+use Rattle.step_words.specs.Words.{AreWordChanges, HasWords, StepState}
+use Rattle.written_words.specs.Same.{FollowsAll, SameUnwritten}
+use Rattle.written_words.specs.Written.{WrittenState}
 
 -- the processes that a list has to run
 abbrev pub listed_of : StepRoom → List ℕ
@@ -76,11 +85,11 @@ module _ (d : Design) (habit : Habit) (points : Points) (x : ReplayTables) (r : 
   abbrev m : Made
   m = made_with d habit points x
 
-  abbrev before : Parts
+  abbrev before : Following
   before = parts_with r s
 
   abbrev due : BoundDump → ℕ → Replay → Due
-  due dump t a = due_at (subject_of m dump) t a before
+  due dump t a = due_at (subject_of m dump) t a before.parts
 
   -- the sets of each step that is due are found: these, with what is early
   abbrev ForFound : StepRoom → Type 0
@@ -94,8 +103,12 @@ module _ (d : Design) (habit : Habit) (points : Points) (x : ReplayTables) (r : 
       (st : Closing) → IsClockedStep st points (state_of n.sets) habit x.step.codes.items s.values time → AreClockedOf st (clocked_in n) → Knows st.design st.start.kept s.store
       → AreVerdicts st.design points st.start.notes s.notes.marks.verdicts → holds st
 
-  -- the sets of each such step are found, and its Clocked have run
-  pub record HasRunClocked (n : StepRoom) (time : ℕ) (q : ReplayRoom) (u : ReplayState) : Type 0 where
+  -- what was known of the words is known as such a step starts
+  abbrev KnowsWords : Closing → Type 0
+  KnowsWords st = HasWords st.design st.start.kept s.notes.written.ranges r.words
+
+  -- the sets of each such step are found, its Clocked have run, and the words that they have written are compared
+  pub record HasRunClocked (n : StepRoom) (time : ℕ) (q : ReplayRoom) (u : ReplayState) (v : WrittenState) : Type 0 where
     pub found : ForFound n
     pub early : ℕ → List ℕ
     pub chosen : AreChosen (state_of n.sets) habit early
@@ -106,8 +119,12 @@ module _ (d : Design) (habit : Habit) (points : Points) (x : ReplayTables) (r : 
     pub marked : AreMarksOf points u.notes.marks
     pub knows : ForClocked n time (λ st. Knows st.design (flush (clocked_run st).kept (clocked_run st).queue) u.store)
     pub marks : ForClocked n time (λ st. AreVerdicts st.design points (clocked_run st).notes u.notes.marks.verdicts)
+    pub words : ForClocked n time (λ st. KnowsWords st → HasWords st.design (left_by_clocked st) s.notes.written.ranges q.words)
+    pub changes : ForClocked n time (λ st. KnowsWords st → AreWordChanges st.design (FollowsAll st.design v) st.start.kept (left_by_clocked st) q.words)
+    pub followed : (p y : ℕ) → In y (row_at x.processes.watched p) → is_memory d y ≡ true → FollowsAll d v y
+    pub ranges : u.notes.written.ranges ≡ s.notes.written.ranges
 
-  module _ (n : StepRoom) (time : ℕ) (q : ReplayRoom) (u : ReplayState) (has : HasRunClocked n time q u) where
+  module _ (n : StepRoom) (time : ℕ) (q : ReplayRoom) (u : ReplayState) (v : WrittenState) (has : HasRunClocked n time q u v) where
     abbrev early : ℕ → List ℕ
     early = has.early
 
@@ -125,10 +142,28 @@ module _ (d : Design) (habit : Habit) (points : Points) (x : ReplayTables) (r : 
           let st = step_of (due dump t a) (state_of n.sets) early in
           let is = clocked_step m dump t a before at (state_of n.sets) early (clocked_in n) n.values first time e in
           let are = clocked_of m dump t a before at (state_of n.sets) early (clocked_in n) n.values first in
-          let start = at.follows.rest in
+          let start = at.follows.parts.rest in
           run_early (due dump t a) early q.ran.items u.store u.notes.marks (state_of n.sets) (state_of q.step.sets) has.rest
           (have_run m dump t a before at (state_of n.sets) early (clocked_in n) n.values first q.ran.items u.store u.notes.marks has.members has.marked
           (has.knows st is are start.knows start.marks) (has.marks st is are start.knows start.marks))
+
+      -- the words once the Clocked have run
+      words_left : HasWords m.design (left_by_clocked (step_of (due dump t a) (state_of q.step.sets) early)) s.notes.written.ranges q.words
+      words_left =
+          let st = step_of (due dump t a) (state_of n.sets) early in
+          let is = clocked_step m dump t a before at (state_of n.sets) early (clocked_in n) n.values first time e in
+          let are = clocked_of m dump t a before at (state_of n.sets) early (clocked_in n) n.values first in
+          let start = at.follows.parts.rest in
+          subst (λ ws. HasWords m.design (left_by_clocked (step_of (due dump t a) ws early)) s.notes.written.ranges q.words) (sym has.rest) (has.words st is are start.knows start.marks at.follows.words)
+
+      words_changed : HasWordChanges (step_of (due dump t a) (state_of q.step.sets) early) (left_by_clocked (step_of (due dump t a) (state_of q.step.sets) early)) q.words
+      words_changed =
+          let st = step_of (due dump t a) (state_of n.sets) early in
+          let is = clocked_step m dump t a before at (state_of n.sets) early (clocked_in n) n.values first time e in
+          let are = clocked_of m dump t a before at (state_of n.sets) early (clocked_in n) n.values first in
+          let start = at.follows.parts.rest in
+          subst (λ ws. HasWordChanges (step_of (due dump t a) ws early) (left_by_clocked (step_of (due dump t a) ws early)) q.words) (sym has.rest)
+          (watched_changes st (left_by_clocked st) v q.words has.followed (has.changes st is are start.knows start.marks at.follows.words))
 
       ran_sensitive : (p : ℕ) → In p q.ran.items → In p m.tables.clocked × IsSensitive m.design dump (suc t) p
       ran_sensitive p i =
@@ -186,10 +221,11 @@ module _ (d : Design) (habit : Habit) (points : Points) (x : ReplayTables) (r : 
         abbrev RunsFor : Points → Type 0
         RunsFor ps =
             (st : Closing) → IsRunOf st ps x.step.order (length x.processes.order.items) (listed_of k) x.wakes x.step.codes.items k.changed.items time
+            → HasWordChanges st (settle_start st (clocked_run st)).kept q.words
             → AtStep st ps (settle_start st (clocked_run st)) store k.values (state_of k.sets) u.acted.items u.notes.marks
             → AtStep st ps (all_run st) z.store w.step.values (state_of w.step.sets) z.acted.items z.notes.marks
 
-        module _ (acted : u.acted.items ≡ s.acted.items) (same : w.step.sets ≡ k.sets) (noted : u.notes.points.now ≡ points) (run : RunsFor u.notes.points.now) (ran : w.ran.items ≡ listed_of k) where
+        module _ (laws : WordsLaw) (settled : k.sets ≡ q.step.sets) (acted : u.acted.items ≡ s.acted.items) (same : w.step.sets ≡ k.sets) (noted : u.notes.points.now ≡ points) (run : RunsFor u.notes.points.now) (ran : w.ran.items ≡ listed_of k) where
           module _ (dump : BoundDump) (t : ℕ) (a : Replay) (e : time ≡ suc t) (at : IsDueAt (subject_of m dump) t a before) where
             abbrev st : Closing
             st = step_of (due dump t a) (state_of k.sets) early
@@ -197,10 +233,19 @@ module _ (d : Design) (habit : Habit) (points : Points) (x : ReplayTables) (r : 
             start : HasBegun (due dump t a) (state_of k.sets) early (listed_of k) k.values store u.notes.marks
             start = begun dump t a e at
 
+            lawful : IsLawfulDesign d
+            lawful = (due_step m dump t a before at).changes.lawful
+
+            words_now : HasWordChanges st (settle_start st (clocked_run st)).kept q.words
+            words_now =
+                laws st q.words lawful (due_step m dump t a before at).tabled
+                (subst (λ ws. HasWordChanges (step_of (due dump t a) (state_of ws) early) (left_by_clocked (step_of (due dump t a) (state_of ws) early)) q.words) (sym settled) (words_changed dump t a e at))
+
             over : AtStep st points (all_run st) z.store w.step.values (state_of k.sets) z.acted.items z.notes.marks
             over = subst (λ ws. AtStep st points (all_run st) z.store w.step.values (state_of ws) z.acted.items z.notes.marks) same (subst RunsFor noted run st
                 (subst (IsRunOf st points x.step.order (length x.processes.order.items) (listed_of k) x.wakes x.step.codes.items k.changed.items) (sym e)
                 (run_is m dump t a before at (state_of k.sets) early (listed_of k) k.values store u.notes.marks start (length x.processes.order.items) x.processes.watched x.wakes k.changed.items refl (λ p. refl) tables.wakes changed))
+                words_now
                 (subst (λ fs. AtStep st points (settle_start st (clocked_run st)) store k.values (state_of k.sets) fs u.notes.marks) (sym acted) start.parts))
 
             runs_over : HasRun st w.ran.items x.step.targets x.checks x.step.codes.items s.values.last z.store w.step.values
@@ -213,23 +258,29 @@ module _ (d : Design) (habit : Habit) (points : Points) (x : ReplayTables) (r : 
               run_refuted m dump t a before at (state_of k.sets) early (listed_of k) k.values store u.notes.marks (start dump t a e at) z.store w.step.values z.acted.items z.notes.marks (over dump t a e at)
               w.ran.items x.step.targets x.checks one (runs_over dump t a e at) differs
 
-          -- where there is none, and the toggles are marked, each dump is followed up to the end of the step
-          pub closes_run : (y : ReplayState) (moves : List ℕ) → All (AgreesAt x.step.codes.items s.values.last w.step.values.made) (last_of_each (flat_map (row_at x.checks) w.ran.items))
+          -- where there is none, and the toggles and the machines are marked, each dump is followed up to the end of the step
+          pub closes_run : (y : ReplayState) (middle : Marks) (moves : List ℕ) → All (AgreesAt x.step.codes.items s.values.last w.step.values.made) (last_of_each (flat_map (row_at x.checks) w.ran.items))
               → moves ≡ (state_of k.sets).moves → IsOfDesign d (flags_of x.step.codes.items) (state_of w.step.sets) → HasNoWriters (state_of w.step.sets) → AreMarksOf points z.notes.marks
-              → y.store ≡ z.store → y.acted.items ≡ z.acted.items → y.values.closed ≡ s.values.last
-              → ((st : Closing) → IsOver st points moves time z.store w.step.values s.seen z.notes.marks → MarksInTurn st points moves z.notes.marks.verdicts y.notes.marks.verdicts)
-              → ((st : Closing) → IsOver st points moves time z.store w.step.values s.seen z.notes.marks → IsSeenAfter st points y.seen y.notes.marks)
+              → y.store ≡ z.store → y.acted.items ≡ z.acted.items → y.values.closed ≡ s.values.last → KeptWordsLaw → w.words ≡ q.words → y.notes.written.ranges ≡ s.notes.written.ranges
+              → ((st : Closing) → IsOver st points moves time z.store w.step.values s.seen z.notes.marks → MarksInTurn st points moves z.notes.marks.verdicts middle.verdicts)
+              → ((st : Closing) → IsOver st points moves time z.store w.step.values s.seen z.notes.marks → IsSeenAfter st points y.seen middle)
+              → AreMarksOf points y.notes.marks → ((st : Closing) → IsMachineStep st moves time z.store w.step.values → MarksMachines st points s.machines.told middle.verdicts y.notes.marks.verdicts)
               → Closes m time before (parts_with w y)
-          closes_run y moves agree moving of writers marks stored flags closed turns seen = λ dump t a e at.
+          closes_run y middle moves agree moving of writers marks stored flags closed stay words ranges turns seen marked machines = λ dump t a e at.
               let now = state_of k.sets in
               let one = step_of (due dump t a) now early in
               let begins = start dump t a e at in
               let ends = over dump t a e at in
               let last = is_over m dump t a before at now early (listed_of k) k.values store u.notes.marks begins z.store w.step.values z.acted.items z.notes.marks ends moves time e moving marks in
-              followed m dump t a before at now early (listed_of k) k.values store u.notes.marks begins z.store w.step.values z.acted.items z.notes.marks ends (parts_with w y) (ap state_of same) stored flags closed of writers
+              followed m dump t a before at now early (listed_of k) k.values store u.notes.marks begins z.store w.step.values z.acted.items z.notes.marks ends (parts_with w y) middle (ap state_of same) stored flags closed of writers
               (agree_law one w.ran.items x.step.targets x.checks x.step.codes.items s.values.last z.store w.step.values (runs_over dump t a e at) agree)
-              (subst (λ ms. MarksInTurn one points ms z.notes.marks.verdicts y.notes.marks.verdicts) moving (turns one last))
+              (subst (λ ms. MarksInTurn one points ms z.notes.marks.verdicts middle.verdicts) moving (turns one last))
               (seen one last)
+              marked
+              (machines one (machines_over m dump t a before at now early (listed_of k) k.values store u.notes.marks begins z.store w.step.values z.acted.items z.notes.marks ends moves time e moving))
+              (subst (λ rs. HasWords d (all_run one).kept rs w.words) (sym ranges) (subst (HasWords d (all_run one).kept s.notes.written.ranges) (sym words)
+              (words_stay d (left_by_clocked one) (all_run one).kept s.notes.written.ranges q.words (λ c is. stay one c (lawful dump t a e at) (due_step m dump t a before at).tabled is)
+              (subst (λ ws. HasWords d (left_by_clocked (step_of (due dump t a) (state_of ws) early)) s.notes.written.ranges q.words) (sym settled) (words_left dump t a e at)))))
 
 -- ---- the parts fit
 
@@ -275,27 +326,40 @@ module _ (d : Design) (points : Points) (x : ReplayTables) (r : ReplayRoom) (s :
       let one = in_filter (λ y. has y (state_of n.sets).woken) p x.processes.clocked.items (subst (In p) listed_are i) in
       subst (λ k. p < k) same ((fits.tables.tabled.clocked p).0 one.0).0)
 
--- so the Clocked of each step that is due have run, where they have run by such sets
-pub clocked_ran : (d : Design) (habit : Habit) (points : Points) (x : ReplayTables) (r : ReplayRoom) (s : ReplayState) (n : StepRoom) (time : ℕ) (q : ReplayRoom) (u : ReplayState) → FitsParts d points x (record r { step = n }) s
+-- so the Clocked of each step that is due have run, where they have run by such sets, and the words are compared
+pub clocked_ran : (d : Design) (habit : Habit) (points : Points) (x : ReplayTables) (r : ReplayRoom) (s : ReplayState) (n : StepRoom) (time : ℕ) (q q' : ReplayRoom) (u u' : ReplayState) → FitsParts d points x (record r { step = n }) s
     → ((order : List ℕ) → AreRanksOf order (length (design_view s.store.design.now).processes) x.step.clocked → clocked_in n ≡ filter (λ p. has p (state_of n.sets).woken) order) → IsLawfulDesign d
     → HasMoves (state_of n.sets) → ForFound d habit points x r s n → (HasWoken (state_of n.sets) (clocked_in n) → (early : ℕ → List ℕ) × AreChosen (state_of n.sets) habit early)
     → q.step ≡ record n { clocked = q.step.clocked; sets = q.step.sets } → IsSameButEarly (state_of n.sets) (state_of q.step.sets)
-    → ((p : ℕ) → In p q.ran.items ↔ (In p (clocked_in n) × (is_woken (state_of n.sets) p ≡ true))) → AreDistinct q.ran.items → AreMarksOf points u.notes.marks
+    → ((p : ℕ) → In p q.ran.items ↔ (In p (clocked_in n) × (is_woken (state_of n.sets) p ≡ true))) → AreDistinct q.ran.items → FitsParts d points x q u
     → ForClocked d habit points x r s n time (λ st. Knows st.design (flush (clocked_run st).kept (clocked_run st).queue) u.store)
-    → ForClocked d habit points x r s n time (λ st. AreVerdicts st.design points (clocked_run st).notes u.notes.marks.verdicts) → HasRunClocked d habit points x r s n time q u
-clocked_ran d habit points x r s n time q u fits listed lawful moves found chosen step rest members once of knows marks =
+    → ForClocked d habit points x r s n time (λ st. AreVerdicts st.design points (clocked_run st).notes u.notes.marks.verdicts)
+    → ForClocked d habit points x r s n time (λ st. SameUnwritten st.design st.start.kept (flush (clocked_run st).kept (clocked_run st).queue) u.notes.written)
+    → q.words ≡ r.words → u.notes.written.ranges ≡ s.notes.written.ranges
+    → q' ≡ record q { words = q'.words } → u' ≡ record u { notes = u'.notes } → u'.notes.marks ≡ u.notes.marks → u'.notes.written.ranges ≡ u.notes.written.ranges
+    → ((e : Design) (old new : Kept) → Knows e new u.store → SameUnwritten e old new u.notes.written → HasWords e old u.notes.written.ranges q.words → HasWords e new u.notes.written.ranges q'.words)
+    → ((e : Design) (old new : Kept) → Knows e new u.store → SameUnwritten e old new u.notes.written → HasWords e old u.notes.written.ranges q.words → AreWordChanges e (FollowsAll e u.notes.written) old new q'.words)
+    → HasRunClocked d habit points x r s n time q' u' u.notes.written
+clocked_ran d habit points x r s n time q q' u u' fits listed lawful moves found chosen step rest members once after knows marks unwritten words ranges room state same again compared changes =
     let early = chosen (have_woken d points x r s n fits listed lawful moves) in
+    let started : (st : Closing) → HasWords st.design st.start.kept s.notes.written.ranges r.words → HasWords st.design st.start.kept u.notes.written.ranges q.words = λ st has.
+    subst (HasWords st.design st.start.kept u.notes.written.ranges) (sym words) (subst (λ rs. HasWords st.design st.start.kept rs r.words) (sym ranges) has) in
     record {
       found = found;
       early = early.0;
       chosen = early.1;
-      step = step;
-      rest = rest;
-      members = members;
-      once = once;
-      marked = of;
-      knows = knows;
-      marks = marks;
+      step = subst (λ (y : ReplayRoom). y.step ≡ record n { clocked = y.step.clocked; sets = y.step.sets }) (sym room) step;
+      rest = subst (λ (y : ReplayRoom). IsSameButEarly (state_of n.sets) (state_of y.step.sets)) (sym room) rest;
+      members = subst (λ (y : ReplayRoom). (p : ℕ) → In p y.ran.items ↔ (In p (clocked_in n) × (is_woken (state_of n.sets) p ≡ true))) (sym room) members;
+      once = subst (λ (y : ReplayRoom). AreDistinct y.ran.items) (sym room) once;
+      marked = subst (AreMarksOf points) (sym same) after.state.marks;
+      knows = λ st is are start verdicts. subst (λ (y : ReplayState). Knows st.design (flush (clocked_run st).kept (clocked_run st).queue) y.store) (sym state) (knows st is are start verdicts);
+      marks = λ st is are start verdicts. subst (λ (y : Marks). AreVerdicts st.design points (clocked_run st).notes y.verdicts) (sym same) (marks st is are start verdicts);
+      words = λ st is are start verdicts has.
+          subst (λ rs. HasWords st.design (left_by_clocked st) rs q'.words) ranges (compared st.design st.start.kept (left_by_clocked st) (knows st is are start verdicts) (unwritten st is are start verdicts) (started st has));
+      changes = λ st is are start verdicts has. changes st.design st.start.kept (left_by_clocked st) (knows st is are start verdicts) (unwritten st is are start verdicts) (started st has);
+      followed = after.words.followed;
+      ranges = again ∙ ranges;
     }
 
 -- none of the processes of the list is a Clocked
@@ -333,4 +397,5 @@ checked_fits d points x q r s is size fits = record {
     checks = size ∙ fits.room.checks;
   });
   state = fits.state;
+  words = subst (λ (y : ReplayRoom). FitsWords d x s.notes.written y.words) (sym is) fits.words;
 }

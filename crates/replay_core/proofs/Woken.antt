@@ -21,7 +21,6 @@ use Rattle.first_step.specs.store_knowledge.Knows.{Knows}
 use Rattle.four_state.specs.declared.edge.Edge.{Edge}
 use Rattle.index_sets.specs.Rows.{row_at}
 use Rattle.process_order.proofs.Distinct.{in_filter}
-use Rattle.replay_follows.specs.Follows.{Parts}
 use Rattle.replay_follows.specs.Laws.{due_at}
 use Rattle.replay_model.specs.Step.{Closing, Replay, clocked_run}
 use Rattle.step_clocked.specs.Runs.{AreClockedOf, IsClockedStep, is_woken}
@@ -29,7 +28,7 @@ use Rattle.step_start.specs.step_parts.Due.{Due, HasFound, HaveClockedRun, step_
 use Rattle.step_start.proofs.step_parts.Begun.{listed_are}
 use Rattle.wake_laws.specs.Laws.{habit_of}
 use Rattle.replay_core.specs.Closing.{IsDueAt}
-use Rattle.replay_core.specs.Made.{Made, subject_of}
+use Rattle.replay_core.specs.Made.{Following, Made, subject_of}
 use Rattle.replay_core.specs.Steps.{IsSensitive, has_event_of}
 use Rattle.replay_core.proofs.Closing.{due_step}
 
@@ -49,31 +48,31 @@ there_is (Some s) e = (s, refl)
 
 -- ---- a step that is due
 
-module _ (m : Made) (dump : BoundDump) (t : ℕ) (a : Replay) (x : Parts) (at : IsDueAt (subject_of m dump) t a x) (wakes : WakeState) (early : ℕ → List ℕ) (listed : List ℕ) (v : StepVectors)
-    (found : HasFound (due_at (subject_of m dump) t a x) wakes early listed v) where
+module _ (m : Made) (dump : BoundDump) (t : ℕ) (a : Replay) (x : Following) (at : IsDueAt (subject_of m dump) t a x) (wakes : WakeState) (early : ℕ → List ℕ) (listed : List ℕ) (v : StepVectors)
+    (found : HasFound (due_at (subject_of m dump) t a x.parts) wakes early listed v) where
   abbrev due : Due
-  due = due_at (subject_of m dump) t a x
+  due = due_at (subject_of m dump) t a x.parts
 
   abbrev st : Closing
   st = step_of due wakes early
 
   -- what is listed is a Clocked that runs
   listed_run : (p : ℕ) → In p listed ↔ (In p m.tables.clocked × (Rattle.step_start.specs.step_parts.clocked_laws.Clocked.is_running st p ≡ true))
-  listed_run = listed_are due m.codes m.ranks m.clocked_ranks x.sets wakes x.values x.store early listed v (due_step m dump t a x at) found
+  listed_run = listed_are due m.codes m.ranks m.clocked_ranks x.parts.sets wakes x.parts.values x.parts.store early listed v (due_step m dump t a x at) found
 
   -- it is the step that its Clocked run in
-  pub clocked_step : (time : ℕ) → time ≡ suc t → IsClockedStep st m.points wakes m.habit m.codes x.values time
+  pub clocked_step : (time : ℕ) → time ≡ suc t → IsClockedStep st m.points wakes m.habit m.codes x.parts.values time
   clocked_step time same =
       let is = due_step m dump t a x at in
       let before : suc t - 1 ≡ t = omega arith in
       record {
-        apart = at.follows.subject.apart;
-        once = at.follows.subject.once;
+        apart = at.follows.parts.subject.apart;
+        once = at.follows.parts.subject.once;
         by = record { runs = refl; time_is = sym same };
         dumped = record {
           bound = is.changes.bound;
           old = dump.values t;
-          before = subst (λ n. Rattle.first_step.specs.step_values.Dumped.AreDumped m.design m.codes x.values.closed (dump.values n)) before is.changes.old;
+          before = subst (λ n. Rattle.first_step.specs.step_values.Dumped.AreDumped m.design m.codes x.parts.values.closed (dump.values n)) before is.changes.old;
           known = is.known;
           after = is.changes.new;
         };

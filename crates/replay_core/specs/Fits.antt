@@ -1,5 +1,5 @@
 -- The parts of a replay fit its design: what is true of each replay, whatever the dump has given.
-use Rattle.std.specs.Prelude.{◌≡◌, ◌<◌, ◌≤◌, ◌++◌, ℕ, false, List, [], length, slice_index_or, Option, Some, None}
+use Rattle.std.specs.Prelude.{◌≡◌, ◌<◌, ◌≤◌, ◌^◌, ◌++◌, ℕ, false, true, List, [], length, slice_index_or, Option, Some, None}
 use Rattle.body_replay.specs.Store.{Kept}
 use Rattle.body_store.specs.Made.{nothing}
 use Rattle.code_values.specs.Values.{lacks_value, value_of}
@@ -7,12 +7,14 @@ use Rattle.cover_marks.specs.Marks.{AreMarksOf}
 use Rattle.cover_points.specs.Listed.{IsPointList}
 use Rattle.cover_points.specs.Visits.{AreApart, AreOnce}
 use Rattle.cover_points.specs.declared.listing.Points.{Points}
-use Rattle.design_model.specs.Design.{Design, signal_at}
+use Rattle.design_model.specs.Design.{Design, In, is_memory, signal_at}
 use Rattle.design_model.specs.Lawful.{IsLawfulDesign}
+use Rattle.design_model.specs.Points.{StateNames}
 use Rattle.early_sets.specs.WakeState.{state_of}
 use Rattle.four_state.specs.Vector.{Vector}
 use Rattle.index_sets.specs.Rows.{row_at}
 use Rattle.first_step.specs.mark_laws.Marked.{AreVerdicts}
+use Rattle.machine_index.specs.Index.{IsIndexOf}
 use Rattle.model_laws.specs.Own.{HasOwnWakes}
 use Rattle.process_order.specs.Tables.{tables_of}
 use Rattle.replay_model.specs.Tables.{AreTables}
@@ -28,7 +30,10 @@ use Rattle.first_step.specs.step_values.Vectors.{FitsSignals}
 use Rattle.first_step.specs.step_wakes.Step.{IsOfDesign}
 use Rattle.first_step.specs.store_knowledge.Knows.{Knows}
 use Rattle.first_step.specs.wake_bits.Wakes.{AreWakeRows}
+use Rattle.step_words.specs.Words.{FitsRanges, HasWords, StepState}
 use Rattle.wake_laws.specs.Laws.{HasNoWriters}
+use Rattle.written_words.specs.Same.{FollowsAll}
+use Rattle.written_words.specs.Written.{WrittenState}
 use Rattle.replay_core.specs.Codes.{flags_of}
 use Rattle.replay_core.specs.declared.fault.Phase.{Phase}
 use Rattle.replay_core.specs.declared.fault.Phase.TheVariants.{New, Refused, Started}
@@ -38,12 +43,12 @@ use Rattle.replay_core.specs.declared.room.ReplayRoom.{ReplayRoom}
 use Rattle.replay_core.specs.declared.state.ReplayState.{ReplayState}
 use Rattle.replay_core.specs.declared.tables.ReplayTables.{ReplayTables}
 
--- a lawful design whose steps can be replayed, without memories, and its points
+-- a lawful design whose steps can be replayed, and its points, with some state machines
 pub record IsReplayable (d : Design) (points : Points) : Type 0 where
   pub lawful : IsLawfulDesign d
   pub own_wakes : HasOwnWakes d
-  pub memories : d.memories ≡ []
-  pub listed : IsPointList d [] points
+  pub machines : List StateNames
+  pub listed : IsPointList d machines points
   pub apart : AreApart points
   pub once : AreOnce points
 
@@ -89,6 +94,8 @@ pub record FitsState (d : Design) (points : Points) (x : ReplayTables) (s : Repl
   pub known : Knows d kept s.store
   pub acted : length s.acted.items ≡ length d.processes
   pub seen : length s.seen ≡ length d.signals
+  pub machines : IsIndexOf points.machines.items (length d.signals) s.machines.index
+  pub few_machines : length points.machines.items ≤ 2 ^ 32
   pub noted : s.notes.points.now ≡ points
   pub marks : AreMarksOf points s.notes.marks
   pub rows : length x.step.signals ≡ length s.values.last
@@ -96,18 +103,28 @@ pub record FitsState (d : Design) (points : Points) (x : ReplayTables) (s : Repl
   pub wide_closed : AreWideValues d x.step.codes.items s.values.closed
   pub unsigned : AreUnsigned s.values.last
 
--- all three fit
+-- the words that are listed as they are written, and those of which is known what they were, are the words of the memories that some
+-- process watches
+pub record FitsWords (d : Design) (x : ReplayTables) (w : WrittenState) (y : StepState) : Type 0 where
+  pub first : w.first ≡ length d.signals
+  pub ranges : FitsRanges d w.ranges y
+  pub followed : (p m : ℕ) → In m (row_at x.processes.watched p) → is_memory d m ≡ true → FollowsAll d w m
+
+-- all fit
 pub record FitsParts (d : Design) (points : Points) (x : ReplayTables) (r : ReplayRoom) (s : ReplayState) : Type 0 where
   pub tables : FitsTables d x
   pub room : FitsRoom d x r
   pub state : FitsState d points x s
+  pub words : FitsWords d x s.notes.written r.words
 
--- nothing is known of a signal, no Comb has acted, and no point is marked
-pub record IsUntouched (d : Design) (points : Points) (s : ReplayState) : Type 0 where
+-- nothing is known of a signal or word, no Comb has acted, no point is marked, and the states of no machine were
+pub record IsUntouched (d : Design) (points : Points) (r : ReplayRoom) (s : ReplayState) : Type 0 where
   pub knows : Knows d nothing s.store
+  pub words : HasWords d nothing s.notes.written.ranges r.words
   pub acted : (p : ℕ) → flag_at s.acted.items p ≡ false
   pub marks : AreVerdicts d points [] s.notes.marks.verdicts
   pub seen : AreSeen d points s.seen s.notes.marks.verdicts
+  pub told : s.machines.told ≡ false
 
 -- each signal with a code has a value
 abbrev pub HaveValues : List (Option ℕ) → List (Option Vector) → Type 0
@@ -124,7 +141,7 @@ pub record FitsReplay (d : Design) (points : Points) (x : ReplayTables) (r : Rep
   pub parts : FitsParts d points x r s
   pub none : r.step.list.pairs ≡ []
   pub none_clocked : r.step.clocked.pairs ≡ []
-  pub untouched : phase ≡ New → IsUntouched d points s
+  pub untouched : phase ≡ New → IsUntouched d points r s
   pub begun : phase ≡ Started → HaveValues x.step.codes.items s.values.last
   pub closed : phase ≡ Started → HaveValues x.step.codes.items s.values.closed
   pub refused : (fault : ReplayFault) → phase ≡ Refused fault → signal_of fault < length d.signals

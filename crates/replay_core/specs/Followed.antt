@@ -8,12 +8,11 @@ use Rattle.design_model.specs.Design.{signal_bits}
 use Rattle.design_model.specs.Shows.{BoundDump, IsListed, IsWindow}
 use Rattle.four_state.specs.declared.bit.Bit.{Bit}
 use Rattle.first_step.specs.mark_laws.Marked.{AreVerdicts}
-use Rattle.replay_follows.specs.Follows.{Follows}
 use Rattle.replay_model.specs.Laws.{AreReasonedVerdicts, AreSoundVerdicts}
 use Rattle.replay_model.specs.Step as model
 use Rattle.first_step.specs.step_values.Dumped.{AreDumped}
 use Rattle.wake_laws.specs.Laws.{habit_of}
-use Rattle.replay_core.specs.Made.{IsDumpFor, Made, subject_of}
+use Rattle.replay_core.specs.Made.{HasFollows, IsDumpFor, Made, subject_of}
 use Rattle.replay_core.specs.Parts.{IsStarted, given_of, made_of, parts_of}
 use Rattle.replay_core.specs.declared.replay.Replay.{Replay}
 
@@ -26,7 +25,7 @@ pub record HasFollowed (x : Replay) (dump : BoundDump) (t : ℕ) : Type 0 where
   pub dumped : IsDumpFor (made_of x) dump
   pub started : IsStarted x
   pub replay : model.Replay
-  pub follows : Follows (subject_of (made_of x) dump) t replay (parts_of x)
+  pub follows : HasFollows (subject_of (made_of x) dump) t replay (parts_of x)
 
 -- the step that ends at a time is the next one of the dump, before its last
 pub record IsNextStep (dump : BoundDump) (t end : ℕ) : Type 0 where

@@ -7,9 +7,12 @@ use Rattle.design_model.specs.Shows.{BoundDump, IsDumpOf}
 use Rattle.early_sets.specs.WakeState.{state_of}
 use Rattle.early_sets.specs.declared.habit.Habit.{Habit}
 use Rattle.process_order.specs.Tables.{tables_of}
-use Rattle.replay_follows.specs.Follows.{Parts, Subject}
+use Rattle.replay_follows.specs.Follows.{Follows, Parts, Subject}
+use Rattle.replay_model.specs.Step.{Replay}
 use Rattle.replay_model.specs.Tables.{Tables}
 use Rattle.first_step.specs.step_values.Loose.{has_code}
+use Rattle.step_words.specs.Words.{HasWords, StepState}
+use Rattle.written_words.specs.declared.range.WordRange.{WordRange}
 use Rattle.replay_core.specs.Codes.{flags_of}
 use Rattle.replay_core.specs.declared.room.ReplayRoom.{ReplayRoom}
 use Rattle.replay_core.specs.declared.state.ReplayState.{ReplayState}
@@ -54,17 +57,33 @@ subject_of m dump =
       clocked_ranks = m.clocked_ranks;
     }
 
+-- what follows a dump: the parts, and what was known of the words that are followed when the last step ended
+pub record Following : Type 0 where
+  pub parts : Parts
+  pub ranges : List WordRange
+  pub words : StepState
+
 -- what is kept in the room and the state
-abbrev pub parts_with : ReplayRoom → ReplayState → Parts
+abbrev pub parts_with : ReplayRoom → ReplayState → Following
 parts_with r s =
     record {
-      sets = state_of r.step.sets;
-      values = s.values;
-      store = s.store;
-      acted = s.acted.items;
-      marks = s.notes.marks;
-      seen = s.seen;
+      parts = record {
+        sets = state_of r.step.sets;
+        values = s.values;
+        store = s.store;
+        acted = s.acted.items;
+        marks = s.notes.marks;
+        seen = s.seen;
+        told = s.machines.told;
+      };
+      ranges = s.notes.written.ranges;
+      words = r.words;
     }
+
+-- these have followed the dump up to a time, at which the replay is this, with its words
+pub record HasFollows (f : Subject) (t : ℕ) (a : Replay) (x : Following) : Type 0 where
+  pub parts : Follows f t a x.parts
+  pub words : HasWords f.design a.kept x.ranges x.words
 
 -- a dump of the design that has the signals with a code, of which each step is judged by the first round
 pub record IsDumpFor (m : Made) (dump : BoundDump) : Type 0 where

@@ -2,9 +2,8 @@
 use Rattle.std.specs.Prelude.{◌≡◌, false, List, Option}
 use Rattle.design_model.specs.View.{design_view}
 use Rattle.four_state.specs.Vector.{Vector}
-use Rattle.replay_follows.specs.Follows.{Parts}
 use Rattle.replay_core.specs.Fits.{FitsReplay}
-use Rattle.replay_core.specs.Made.{Made, made_with, parts_with}
+use Rattle.replay_core.specs.Made.{Following, Made, made_with, parts_with}
 use Rattle.replay_core.specs.declared.fault.Phase.TheVariants.{New, Refused, Started}
 use Rattle.replay_core.specs.declared.fault.ReplayFault.{ReplayFault}
 use Rattle.replay_core.specs.declared.replay.Replay.{Replay}
@@ -14,7 +13,7 @@ abbrev pub made_of : Replay → Made
 made_of x = made_with (design_view x.design.now) x.habit x.state.notes.points.now x.tables.value
 
 -- what it keeps
-abbrev pub parts_of : Replay → Parts
+abbrev pub parts_of : Replay → Following
 parts_of x = parts_with x.room.value x.state
 
 -- the values that the dump gave last, by code

@@ -12,6 +12,7 @@ ghost use Rattle.first_step.specs.replay_sets.SetsOf.{AreChosen};
 ghost use Rattle.first_step.specs.store_knowledge.Knows.{Knows};
 ghost use Rattle.replay_model.specs.Step.{Closing, clocked_run};
 ghost use Rattle.step_clocked.specs.Runs.{AreClockedOf, AreFirstOf, HasWoken, IsClockedStep, is_woken};
+ghost use Rattle.written_words.specs.Same.{SameUnwritten};
 ghost use Rattle.replay_core.specs.Fits.{FitsParts, HaveValues, IsReplayable};
 
 use crate::room::ReplayRoom;
@@ -50,7 +51,10 @@ pub(crate) fn run_woken_clocked<L: Ledger>(
     ensures values { state.new.values ≡ state.old.values }
     ensures acted { state.new.acted ≡ state.old.acted }
     ensures seen { state.new.seen ≡ state.old.seen }
+    ensures machines { state.new.machines ≡ state.old.machines }
     ensures points { state.new.notes.points.now ≡ state.old.notes.points.now }
+    ensures words { room.new.words ≡ room.old.words }
+    ensures ranges { state.new.notes.written.ranges ≡ state.old.notes.written.ranges }
     ensures steps { steps.new ≡ steps.old + length room.new.ran.items }
     ensures chosen { HasWoken (state_of room.old.step.sets) (map (λ q. q.0) room.old.step.clocked.pairs) → (early : ℕ → List ℕ) × AreChosen (state_of room.old.step.sets) habit early }
     ensures knows { (st : Closing) → IsClockedStep st state.old.notes.points.now (state_of room.old.step.sets) habit tables.now.step.codes.items state.old.values time → AreClockedOf st (map (λ q. q.0) room.old.step.clocked.pairs)
@@ -59,6 +63,9 @@ pub(crate) fn run_woken_clocked<L: Ledger>(
     ensures verdicts { (st : Closing) → IsClockedStep st state.old.notes.points.now (state_of room.old.step.sets) habit tables.now.step.codes.items state.old.values time → AreClockedOf st (map (λ q. q.0) room.old.step.clocked.pairs)
         → Knows st.design st.start.kept state.old.store → AreVerdicts st.design state.old.notes.points.now st.start.notes state.old.notes.marks.verdicts
         → AreVerdicts st.design state.old.notes.points.now (clocked_run st).notes state.new.notes.marks.verdicts }
+    ensures unwritten { (st : Closing) → IsClockedStep st state.old.notes.points.now (state_of room.old.step.sets) habit tables.now.step.codes.items state.old.values time → AreClockedOf st (map (λ q. q.0) room.old.step.clocked.pairs)
+        → Knows st.design st.start.kept state.old.store → AreVerdicts st.design state.old.notes.points.now st.start.notes state.old.notes.marks.verdicts
+        → SameUnwritten st.design st.start.kept (flush (clocked_run st).kept (clocked_run st).queue) state.new.notes.written }
 {
     let given = Given {
         design,

@@ -17,6 +17,7 @@ use dump_check::Difference;
 use first_step::begin_first;
 use std::sync::ledger::Ledger;
 use step_counts::Steps;
+use step_runs::words_law;
 
 /// Closes the first step, where each signal with a code has a value. The result is the signal that contradicts it, if there is one.
 pub(crate) fn run_first_step<L: Ledger>(
@@ -30,7 +31,7 @@ pub(crate) fn run_first_step<L: Ledger>(
     requires fits { FitsParts (design_view design.now) state.old.notes.points.now tables.now room.old state.old }
     requires none { room.old.step.list.pairs ≡ [] }
     requires none_clocked { room.old.step.clocked.pairs ≡ [] }
-    requires untouched { IsUntouched (design_view design.now) state.old.notes.points.now state.old }
+    requires untouched { IsUntouched (design_view design.now) state.old.notes.points.now room.old state.old }
     requires given { HaveValues tables.now.step.codes.items state.old.values.last }
     ensures fits { FitsParts (design_view design.now) state.old.notes.points.now tables.now room.new state.new }
     ensures none { room.new.step.list.pairs ≡ [] }
@@ -44,6 +45,7 @@ pub(crate) fn run_first_step<L: Ledger>(
     ensures steps { steps.new ≤ steps.old + length design.now.processes }
 {
     runs_lawful();
+    words_law();
     let rows = process_rows(design, tables);
     let found = begin_first(
         &mut state.store,

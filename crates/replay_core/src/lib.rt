@@ -4,8 +4,8 @@
 //! A [`Replay`] is made of a design, its points and the codes of its signals. [`Replay::change`] takes a change of a code,
 //! [`Replay::start`] closes the first step and [`Replay::close_step`] each later one, and [`Replay::finish`] hands out the
 //! marks. It is proved that what is kept and marked is right in every run of the design that shows the dump
-//! (`specs/Followed.antt`), and that no run shows a dump that is refused as a contradiction. A design has no memory and no
-//! state machine for now. Only [`Replay::new`] takes memory.
+//! (`specs/Followed.antt`), and that no run shows a dump that is refused as a contradiction. Only [`Replay::new`] takes
+//! memory.
 #![tactic(auto)]
 
 mod clocked;

@@ -39,6 +39,7 @@ use four_state::Four;
 use std::alloc::Global;
 use std::sync::ledger::Ledger;
 use step_counts::Steps;
+use step_words::followed_memories;
 
 /// The replay of a dump.
 ///
@@ -97,8 +98,15 @@ impl<'a> Replay<'a> {
         let bound = bound_flags(alloc, codes.as_slice())?;
         let count = past_codes(codes.as_slice());
         let tables = make_tables(alloc, design, codes, bound.as_slice(), count)?;
-        let room = make_room(alloc, design, &tables, bound.as_slice())?;
-        let state = make_state(alloc, design, points, count)?;
+        let followed = followed_memories(alloc, design, &tables.processes.watched)?;
+        let room = make_room(
+            alloc,
+            design,
+            &tables,
+            bound.as_slice(),
+            followed.as_slice(),
+        )?;
+        let state = make_state(alloc, design, points, count, followed.as_slice())?;
         Ok(Replay {
             design,
             habit,

@@ -1,13 +1,17 @@
 //! The room of a step, which is used in each step anew.
 
-ghost use Rattle.std.specs.Prelude.{◌≡◌, ◌<◌, ◌≤◌, [], ℕ, IfOk, length};
+ghost use Rattle.std.specs.Prelude.{◌≡◌, ◌<◌, ◌≤◌, [], ℕ, IfOk, List, length};
 ghost use Rattle.design_model.specs.Lawful.{IsLawfulDesign};
 ghost use Rattle.design_model.specs.View.{design_view};
 ghost use Rattle.early_sets.specs.WakeState.{state_of};
 ghost use Rattle.index_sets.specs.Rows.{row_at};
 ghost use Rattle.first_step.specs.step_values.Vectors.{FitsSignals};
 ghost use Rattle.first_step.specs.step_wakes.Step.{IsOfDesign};
+ghost use Rattle.body_store.specs.Made.{nothing};
+ghost use Rattle.step_words.specs.Words.{FitsRanges, HasWords};
 ghost use Rattle.wake_laws.specs.Laws.{HasNoWriters};
+ghost use Rattle.written_words.specs.Written.{AreRanges};
+ghost use Rattle.written_words.specs.declared.range.WordRange.{WordRange};
 ghost use Rattle.replay_core.specs.Codes.{flags_of};
 ghost use Rattle.replay_core.specs.Fits.{FitsRoom, FitsTables};
 
@@ -19,6 +23,7 @@ use first_step::{SavedValues, Scratch, StepValues, wakes_of};
 use index_sets::IndexSet;
 use std::alloc::Global;
 use step_start::StepRoom;
+use step_words::StepWords;
 use value_store::Queue;
 use wake_list::WakeList;
 
@@ -37,6 +42,8 @@ pub(crate) struct ReplayRoom {
     pub(crate) ran: Queue<usize>,
     /// The signals that are compared with the dump.
     pub(crate) checks: CheckOrder,
+    /// The memories of which a word has changed.
+    pub(crate) words: StepWords,
 }
 
 // Written out so that a crate which lets one go does not prove again how each of its parts is let go.
@@ -48,21 +55,26 @@ impl Drop for ReplayRoom {
             later: _,
             ran: _,
             checks: _,
+            words: _,
         } = self;
     }
 }
 
-/// The room for the steps of a design with these tables. `bound` says for each signal whether the dump has it.
+/// The room for the steps of a design with these tables. `bound` says for each signal whether the dump has it, and
+/// `followed` for each memory whether an Assign or Comb watches it.
 pub(crate) fn make_room(
     alloc: Global,
     design: &Design,
     tables: &ReplayTables,
     bound: &[bool],
+    followed: &[bool],
 ) -> Result<Box<ReplayRoom>, NoMemory>
     requires lawful { IsLawfulDesign (design_view design.now) }
     requires tables { FitsTables (design_view design.now) tables.now }
     requires bound { bound.now ≡ flags_of tables.now.step.codes.items }
+    requires followed { length followed.now ≡ length design.now.memories }
     ensures fits { IfOk result (λ room. FitsRoom (design_view design.now) tables.now room.value) }
+    ensures words { IfOk result (λ room. (ranges : List WordRange) → AreRanges design.now.memories followed.now ranges → FitsRanges (design_view design.now) ranges room.value.words × HasWords (design_view design.now) nothing ranges room.value.words) }
     ensures none { IfOk result (λ room. room.value.step.list.pairs ≡ []) }
     ensures none_clocked { IfOk result (λ room. room.value.step.clocked.pairs ≡ []) }
 {
@@ -71,12 +83,14 @@ pub(crate) fn make_room(
     let ran = Queue::new(alloc, design.processes.len())?;
     let checks = CheckOrder::new(alloc, design.signals.len() as u32)?;
     let step = step_room(alloc, design, bound)?;
+    let words = StepWords::new(alloc, design, followed)?;
     let room = ReplayRoom {
         step,
         scratch,
         later,
         ran,
         checks,
+        words,
     };
     Ok(Box::new(alloc, room)?)
 }

@@ -8,6 +8,7 @@ ghost use Rattle.early_sets.specs.WakeState.{state_of};
 ghost use Rattle.replay_model.specs.Step.{Closing, all_run, clocked_run, settle_start};
 ghost use Rattle.step_start.specs.step_parts.AtStep.{AtStep};
 ghost use Rattle.step_runs.specs.Runs.{IsRunOf};
+ghost use Rattle.first_step.specs.settling.Wakes.{HasWordChanges};
 ghost use Rattle.replay_core.specs.Fits.{FitsParts, IsReplayable};
 
 use crate::room::ReplayRoom;
@@ -56,9 +57,13 @@ pub(crate) fn run_woken<L: Ledger>(
     ensures sets { room.new.step.sets ≡ room.old.step.sets }
     ensures values { state.new.values ≡ state.old.values }
     ensures seen { state.new.seen ≡ state.old.seen }
+    ensures words { room.new.words ≡ room.old.words }
+    ensures ranges { state.new.notes.written.ranges ≡ state.old.notes.written.ranges }
+    ensures machines { state.new.machines ≡ state.old.machines }
     ensures steps { steps.new ≡ steps.old + length room.old.step.list.pairs }
     ensures step { (st : Closing)
         → IsRunOf st state.old.notes.points.now tables.now.step.order (length tables.now.processes.order.items) (map (λ q. q.0) room.old.step.list.pairs) tables.now.wakes tables.now.step.codes.items room.old.step.changed.items time
+        → HasWordChanges st (settle_start st (clocked_run st)).kept room.old.words
         → AtStep st state.old.notes.points.now (settle_start st (clocked_run st)) state.old.store room.old.step.values (state_of room.old.step.sets) state.old.acted.items state.old.notes.marks
         → AtStep st state.old.notes.points.now (all_run st) state.new.store room.new.step.values (state_of room.new.step.sets) state.new.acted.items state.new.notes.marks }
 {
@@ -66,6 +71,7 @@ pub(crate) fn run_woken<L: Ledger>(
     let found = Found {
         sets: &room.step.sets,
         changed: &room.step.changed,
+        words: &room.words,
         time,
     };
     run_all(

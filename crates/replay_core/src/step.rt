@@ -1,20 +1,25 @@
 //! A closing step.
 
-ghost use Rattle.std.specs.Prelude.{◌≡◌, ◌<◌, [], IfNone, IfSome, flat_map, length};
+ghost use Rattle.std.specs.Prelude.{◌≡◌, ◌<◌, [], IfNone, IfSome, List, flat_map, length, true};
 ghost use Rattle.std.specs.List.{All};
 ghost use Rattle.body_replay.specs.Store.{Kept};
 ghost use Rattle.cover_marks.specs.Marks.{AreMarksOf};
 ghost use Rattle.cover_points.specs.Listed.{IsPointList};
 ghost use Rattle.design_model.specs.Design.{Design as TheDesign};
 ghost use Rattle.design_model.specs.Lawful.{IsLawfulDesign};
+ghost use Rattle.design_model.specs.Points.{StateNames};
 ghost use Rattle.design_model.specs.View.{design_view};
 ghost use Rattle.dump_check.specs.Checks.{AgreesAt, IsFirstDifference, last_of_each};
 ghost use Rattle.index_sets.specs.Rows.{row_at};
 ghost use Rattle.replay_model.specs.Step.{Closing};
+ghost use Rattle.machine_laws.specs.Followed.{MarksMachines};
+ghost use Rattle.step_machines.specs.Marked.{FitsMachines, IsOver as HasRun};
 ghost use Rattle.step_marks.specs.Marked.{IsOver, IsSeenAfter};
 ghost use Rattle.first_step.specs.step_values.Vectors.{FitsSignals};
 ghost use Rattle.first_step.specs.store_knowledge.Knows.{Knows};
 ghost use Rattle.step_marks.specs.toggle_laws.Turns.{MarksInTurn};
+ghost use Rattle.step_words.specs.Words.{AreWordChanges, FitsRanges, HasWords};
+ghost use Rattle.written_words.specs.Same.{FollowsAll, SameUnwritten};
 ghost use Rattle.replay_core.specs.Closing.{Closes, Counts, Refutes};
 ghost use Rattle.replay_core.specs.Fits.{FitsParts, HaveValues, IsReplayable};
 ghost use Rattle.replay_core.specs.Made.{made_with, parts_with};
@@ -32,9 +37,11 @@ use first_step::{StepValues, check};
 use signal_marks::SignalMarks;
 use std::sync::ledger::Ledger;
 use step_counts::Steps;
+use step_machines::MachineMarks;
 use step_marks::mark_moved;
-use step_runs::MarkNotes;
+use step_runs::{MarkNotes, words_law};
 use step_start::{find_step, settle_step};
+use step_words::StepWords;
 
 /// Closes the step that ends at this time, where each signal with a code has a value. The result is the signal that contradicts it,
 /// if there is one.
@@ -64,8 +71,10 @@ pub(crate) fn run_step<L: Ledger>(
     ensures counts { Counts (made_with (design_view design.now) habit state.old.notes.points.now tables.now) time (parts_with room.old state.old) steps.old steps.new }
     ensures named { IfSome result (λ found. found.signal < length design.now.signals) }
 {
+    words_law();
     find_step(&tables.step, &state.values, &mut room.step, &state.store);
     run_woken_clocked(design, habit, tables, room, state, time, steps);
+    compare_words(tables, room, state);
     if let Some(found) = settle_step(
         &tables.step,
         room.ran.as_slice(),
@@ -88,8 +97,49 @@ pub(crate) fn run_step<L: Ledger>(
         &mut state.seen,
         &mut state.notes,
     );
+    mark_machines(
+        room.step.sets.moves(),
+        design,
+        &room.step.values,
+        &state.store,
+        time,
+        &mut state.machines,
+        &mut state.notes,
+    );
     state.values.close();
     None
+}
+
+/// Finds the memories of which the Clocked processes have changed a word, and keeps the words for the next step.
+fn compare_words(tables: &ReplayTables, room: &mut ReplayRoom, state: &mut ReplayState)
+    requires fits { FitsParts (design_view state.old.store.design.now) state.old.notes.points.now tables.now room.old state.old }
+    ensures fits { FitsParts (design_view state.old.store.design.now) state.old.notes.points.now tables.now room.new state.new }
+    ensures room { room.new ≡ record room.old { words = room.new.words } }
+    ensures state { state.new ≡ record state.old { notes = state.new.notes } }
+    ensures points { state.new.notes.points.now ≡ state.old.notes.points.now }
+    ensures marks { state.new.notes.marks ≡ state.old.notes.marks }
+    ensures ranges { state.new.notes.written.ranges ≡ state.old.notes.written.ranges }
+    ensures words { (d : TheDesign) (old new : Kept) → Knows d new state.old.store → SameUnwritten d old new state.old.notes.written → HasWords d old state.old.notes.written.ranges room.old.words → HasWords d new state.old.notes.written.ranges room.new.words }
+    ensures changes { (d : TheDesign) (old new : Kept) → Knows d new state.old.store → SameUnwritten d old new state.old.notes.written → HasWords d old state.old.notes.written.ranges room.old.words → AreWordChanges d (FollowsAll d state.old.notes.written) old new room.new.words }
+{
+    compare_noted(&mut room.words, &state.store, &mut state.notes);
+}
+
+/// The same of the words that are noted to be written, which are listed no more after it.
+fn compare_noted(words: &mut StepWords, store: &Store, notes: &mut MarkNotes)
+    requires known { (d : TheDesign) × (k : Kept) × Knows d k store.now }
+    requires fits { FitsRanges (design_view store.now.design.now) notes.old.written.ranges words.old }
+    requires first { notes.old.written.first ≡ length store.now.design.now.signals }
+    ensures fits { FitsRanges (design_view store.now.design.now) notes.old.written.ranges words.new }
+    ensures points { notes.new.points.now ≡ notes.old.points.now }
+    ensures marks { notes.new.marks ≡ notes.old.marks }
+    ensures first { notes.new.written.first ≡ notes.old.written.first }
+    ensures ranges { notes.new.written.ranges ≡ notes.old.written.ranges }
+    ensures words { (d : TheDesign) (old new : Kept) → Knows d new store.now → SameUnwritten d old new notes.old.written → HasWords d old notes.old.written.ranges words.old → HasWords d new notes.old.written.ranges words.new }
+    ensures changes { (d : TheDesign) (old new : Kept) → Knows d new store.now → SameUnwritten d old new notes.old.written → HasWords d old notes.old.written.ranges words.old → AreWordChanges d (FollowsAll d notes.old.written) old new words.new }
+{
+    words.compare(store, &notes.written);
+    notes.written.clear();
 }
 
 /// The first signal of which the processes that ran made something else than what the dump says.
@@ -131,13 +181,47 @@ fn mark_step(
     requires known { (d : TheDesign) × (k : Kept) × Knows d k store.now }
     requires fits { FitsSignals (design_view design.now) values.now }
     requires count { length seen.old ≡ length design.now.signals }
-    requires listed { IsPointList (design_view design.now) [] notes.old.points.now }
+    requires listed { (machines : List StateNames) × IsPointList (design_view design.now) machines notes.old.points.now }
     requires marks { AreMarksOf notes.old.points.now notes.old.marks }
     ensures count { length seen.new ≡ length seen.old }
     ensures points { notes.new.points.now ≡ notes.old.points.now }
+    ensures written { notes.new.written ≡ notes.old.written }
     ensures marks { AreMarksOf notes.old.points.now notes.new.marks }
     ensures toggles { (st : Closing) → IsOver st notes.old.points.now moves.now time store.now values.now seen.old notes.old.marks → MarksInTurn st notes.old.points.now moves.now notes.old.marks.verdicts notes.new.marks.verdicts }
     ensures seen { (st : Closing) → IsOver st notes.old.points.now moves.now time store.now values.now seen.old notes.old.marks → IsSeenAfter st notes.old.points.now seen.new notes.new.marks }
 {
     mark_moved(moves, design, values, store, time, seen, &mut notes.marks);
+}
+
+/// Marks the states and arcs of the machines of what may move, over the step that ends at this time, and at the first step of the window
+/// the states of all machines.
+fn mark_machines(
+    moves: &[usize],
+    design: &Design,
+    values: &StepValues,
+    store: &Store,
+    time: u64,
+    machines: &mut MachineMarks,
+    notes: &mut MarkNotes,
+)
+    requires design { FitsMachines (design_view design.now) notes.old.points.now machines.old.index }
+    requires known { (k : Kept) × Knows (design_view design.now) k store.now }
+    requires fits { FitsSignals (design_view design.now) values.now }
+    requires marks { AreMarksOf notes.old.points.now notes.old.marks }
+    ensures index { machines.new.index ≡ machines.old.index }
+    ensures told { machines.new.told ≡ true }
+    ensures points { notes.new.points.now ≡ notes.old.points.now }
+    ensures written { notes.new.written ≡ notes.old.written }
+    ensures marks { AreMarksOf notes.old.points.now notes.new.marks }
+    ensures machines { (st : Closing) → HasRun st moves.now time store.now values.now → MarksMachines st notes.old.points.now machines.old.told notes.old.marks.verdicts notes.new.marks.verdicts }
+{
+    machines.mark(
+        moves,
+        design,
+        notes.points,
+        values,
+        store,
+        time,
+        &mut notes.marks,
+    );
 }

@@ -50,7 +50,7 @@ impl Drop for ReplayTables {
     }
 }
 
-/// The tables of a design without memories, of which each signal has this code. The codes are below `count`, and `bound` says for
+/// The tables of a design, of which each signal has this code. The codes are below `count`, and `bound` says for
 /// each signal whether it has one. It takes the time of the design's text.
 pub(crate) fn make_tables(
     alloc: Global,
@@ -60,7 +60,6 @@ pub(crate) fn make_tables(
     count: usize,
 ) -> Result<Box<ReplayTables>, NoMemory>
     requires lawful { IsLawfulDesign (design_view design.now) }
-    requires memories { (design_view design.now).memories ≡ [] }
     requires codes { length codes.items ≡ length design.now.signals }
     requires bound { bound.now ≡ flags_of codes.items }
     requires within { (s code : ℕ) → slice_index_or codes.items s None ≡ Some code → code < count }

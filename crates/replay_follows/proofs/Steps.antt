@@ -1,6 +1,7 @@
 -- From one closed step to the next.
 use Rattle.std.proofs.Common.{◌≡◌, ℕ, zero, suc, ◌+◌, ◌-◌, ◌<◌, ◌≤◌, List, [], ◌∷◌, Some, None, sym, ap, subst, ◌∙◌, arith}
 use Rattle.std.specs.Prelude.{slice_index_or}
+use Rattle.std.proofs.lemmas.Bool.{false≢true}
 use Rattle.four_state.specs.Vector.{Vector}
 use Rattle.code_values.specs.Values.{value_of}
 use Rattle.step_parts.specs.cover_points.Listed.{points_of}
@@ -22,13 +23,14 @@ use Rattle.replay_follows.specs.Laws.{ClosedLaw, ContradictedLaw, DueLaw, FirstC
 -- ---- the first step
 
 pub starts : FirstLaw
-starts f t x subject first shown sets writers closed unsigned none rest = record {
+starts f t x subject first shown sets writers closed unsigned none rest untold = record {
   subject = subject;
   sets = sets;
   writers = writers;
   closed = closed;
   unsigned = unsigned;
   rest = rest;
+  told = λ e. absurd (false≢true (sym untold ∙ e));
   shown = shown;
   stands = first_stands_law f.design (habit_of f.habit) f.dump f.run f.tables (points_of f.points) subject.is subject.wakes t first shown none;
 }
@@ -47,6 +49,7 @@ given f t a x values same follows = record {
   closed = subst (λ vs. AreDumped f.design f.codes vs (f.dump.values t)) (sym same) follows.closed;
   unsigned = subst AreUnsigned (sym same) follows.unsigned;
   rest = follows.rest;
+  told = follows.told;
   shown = follows.shown;
   stands = follows.stands;
 }
@@ -77,6 +80,7 @@ stays f t (suc n) a x gap follows =
       closed = subst (λ v. AreDumped f.design f.codes x.values.closed v) (same_values f.dump s.is.fits.stays t (suc n) (λ u l m. (gap u l m).1)) follows.closed;
       unsigned = follows.unsigned;
       rest = follows.rest;
+      told = follows.told;
       shown = shown_of f.dump.times (t + suc n) last.0;
       stands = rests f.design (habit_of f.habit) f.dump f.run f.tables (points_of f.points) s.is s.wakes t (suc n) a gap follows.stands;
     }
@@ -125,7 +129,7 @@ due f t a x follows given =
     }
 
 pub closes : ClosedLaw
-closes f t a x y early follows given window listed sets of writers none values rest =
+closes f t a x y early follows given window listed sets of writers none values rest told =
     let s = follows.subject in
     record {
       subject = s;
@@ -134,6 +138,7 @@ closes f t a x y early follows given window listed sets of writers none values r
       closed = subst (λ vs. AreDumped f.design f.codes vs (f.dump.values (suc t))) (sym values) given.last;
       unsigned = subst AreUnsigned (sym values) given.unsigned;
       rest = rest;
+      told = told;
       shown = shown_of f.dump.times (suc t) window;
       stands = step_stands_law (habit_of f.habit) f.design f.dump f.run f.tables (points_of f.points) s.is s.wakes t (sets_of y.sets early) a window listed sets none follows.stands;
     }

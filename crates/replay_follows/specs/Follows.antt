@@ -1,5 +1,5 @@
 -- A replay has followed a dump up to a time.
-use Rattle.std.specs.Prelude.{◌≡◌, ◌++◌, ℕ, Bool, List, [], length, Option}
+use Rattle.std.specs.Prelude.{◌≡◌, ◌++◌, ℕ, Bool, true, List, length, Option}
 use Rattle.bit_changes.specs.declared.toggles.Toggles.{Toggles}
 use Rattle.step_parts.specs.body_replay.Runs.{Runs}
 use Rattle.step_parts.specs.body_store.declared.store.Store.{Store}
@@ -9,9 +9,11 @@ use Rattle.step_parts.specs.cover_points.Listed.{IsPointList, points_of}
 use Rattle.step_parts.specs.cover_points.Visits.{AreApart, AreOnce}
 use Rattle.step_parts.specs.cover_points.declared.listing.Points.{Points}
 use Rattle.design_model.specs.Design.{Design}
+use Rattle.design_model.specs.Points.{StateNames}
 use Rattle.design_model.specs.Shows.{BoundDump, IsShown}
 use Rattle.early_sets.specs.WakeState.{WakeState}
 use Rattle.early_sets.specs.declared.habit.Habit.{Habit}
+use Rattle.machine_laws.specs.Told.{AreTold}
 use Rattle.model_laws.specs.Own.{HasOwnWakes}
 use Rattle.step_parts.specs.replay_model.Laws.{IsReplayOf}
 use Rattle.step_parts.specs.replay_model.Stands.{Stands}
@@ -38,11 +40,12 @@ pub record Subject : Type 0 where
   pub ranks : List (Option ℕ)  -- the place of each Assign and Comb in the order
   pub clocked_ranks : List (Option ℕ)  -- the place of each Clocked among them
 
--- it is of a lawful design without state machines, and the codes and the places are those of its dump and tables
+-- it is of a lawful design and its points, with some state machines, and the codes and the places are those of its dump and tables
 pub record IsSubject (f : Subject) : Type 0 where
   pub is : IsReplayOf f.design (habit_of f.habit) f.dump f.run f.tables (points_of f.points)
   pub wakes : HasOwnWakes f.design
-  pub listed : IsPointList f.design [] f.points
+  pub machines : List StateNames
+  pub listed : IsPointList f.design machines f.points
   pub apart : AreApart f.points
   pub once : AreOnce f.points
   pub bound : (s : ℕ) → f.dump.bound s ≡ has_code f.codes s
@@ -58,6 +61,7 @@ pub record Parts : Type 0 where
   pub acted : List Bool  -- which Combs have surely acted
   pub marks : Marks
   pub seen : List Toggles  -- what is marked already
+  pub told : Bool  -- whether the states of machines were marked at a time of the window
 
 -- these have followed the dump up to this time, at which the replay is this
 pub record Follows (f : Subject) (t : ℕ) (a : Replay) (x : Parts) : Type 0 where
@@ -67,5 +71,6 @@ pub record Follows (f : Subject) (t : ℕ) (a : Replay) (x : Parts) : Type 0 whe
   pub closed : AreDumped f.design f.codes x.values.closed (f.dump.values t)
   pub unsigned : AreUnsigned x.values.closed
   pub rest : AtRest f.design f.points a x.store x.acted x.marks x.seen
+  pub told : x.told ≡ true → AreTold f.design f.points a
   pub shown : IsShown f.dump t
   pub stands : Stands f.design (habit_of f.habit) f.dump f.tables (points_of f.points) t a

@@ -9,6 +9,7 @@ use Rattle.design_model.specs.Clear.{IsForced}
 use Rattle.design_model.specs.Design.{signal_bits}
 use Rattle.design_model.specs.Shows.{BoundDump, IsContradicted, IsFirst, IsListed, IsShown, IsWindow}
 use Rattle.early_sets.specs.WakeState.{WakeState}
+use Rattle.machine_laws.specs.Told.{AreTold}
 use Rattle.step_parts.specs.mark_laws.Marked.{AreVerdicts}
 use Rattle.step_parts.specs.replay_model.Laws.{AreReasonedVerdicts, AreSoundVerdicts}
 use Rattle.step_parts.specs.replay_model.Sets.{AreFirstSets}
@@ -69,7 +70,7 @@ FirstLaw =
     (f : Subject) (t : ℕ) (x : Parts) → IsSubject f → IsFirst f.dump t → IsShown f.dump t → IsOfDesign f.design f.flags x.sets → HasNoWriters x.sets
     → AreDumped f.design f.codes x.values.closed (f.dump.values t) → AreUnsigned x.values.closed
     → ((c : Cell) → contradicts_first f.design f.dump.bound f.run f.tables (f.dump.values t) c ≡ false)
-    → AtRest f.design f.points (first_replay f t) x.store x.acted x.marks x.seen
+    → AtRest f.design f.points (first_replay f t) x.store x.acted x.marks x.seen → x.told ≡ false
     → Follows f t (first_replay f t) x
 
 -- where some bit contradicts it, no run shows the dump up to its first time
@@ -101,7 +102,7 @@ ClosedLaw =
     (f : Subject) (t : ℕ) (a : Replay) (x y : Parts) (early : ℕ → List ℕ) → Follows f t a x → AreGiven f x (suc t) → IsWindow f.dump (suc t) → IsListed f.dump (suc t)
     → AreFirstSets f.design (habit_of f.habit) f.dump (suc t) (sets_of y.sets early) → IsOfDesign f.design f.flags y.sets → HasNoWriters y.sets
     → ((c : Cell) → contradicts (step_at f t a x y.sets early) c ≡ false) → y.values.closed ≡ x.values.last
-    → AtRest f.design f.points (next_replay f t a x y.sets early) y.store y.acted y.marks y.seen
+    → AtRest f.design f.points (next_replay f t a x y.sets early) y.store y.acted y.marks y.seen → (y.told ≡ true → AreTold f.design f.points (next_replay f t a x y.sets early))
     → Follows f (suc t) (next_replay f t a x y.sets early) y
 
 -- where some bit contradicts a step, no run shows the dump up to its end

@@ -1,2 +1,3 @@
 pub mod Follows
 pub mod Laws
+pub use Rattle.machine_laws.specs as machine_laws

@@ -4,4 +4,5 @@ pub mod Found
 pub mod MentionedWords
 pub mod Reports
 pub mod RunNotes
-pub mod WrittenWords
+pub mod NotedWrites
+pub mod Listed

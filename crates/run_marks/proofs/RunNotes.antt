@@ -18,7 +18,7 @@ use Rattle.body_replay.proofs.WeakPoints.{weak_of_body}
 use Rattle.run_marks.specs.Reported.{AreNotesOf, IsSpotOf}
 use Rattle.run_marks.proofs.BodyPaths.{on_path}
 use Rattle.run_marks.proofs.MentionedWords.{reads_mentioned}
-use Rattle.run_marks.proofs.WrittenWords.{AllMay, MayWrite, Names, WritesMemory, each_names, of_body}
+use Rattle.run_marks.proofs.NotedWrites.{AllMay, MayWrite, Names, WritesMemory, each_names, of_body}
 
 all_noted : (Q : Spot → Type 0) (ns : List Note) → ((x : Spot) → HasNote x ns → Q x) → All (λ (n : Note). Q n.spot) ns
 all_noted Q [] f = All-nil (λ (n : Note). Q n.spot)

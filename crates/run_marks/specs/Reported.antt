@@ -1,7 +1,7 @@
 -- What the marks of points say after a run of a body, where they said what was reported before it.
 use Rattle.std.specs.Prelude.{◌≡◌, ℕ, Bool, List, ◌++◌, true, false, ⊤}
 use Rattle.std.specs.List.{All}
-use Rattle.body_replay.specs.Contract.{Note}
+use Rattle.body_replay.specs.Contract.{HasNote, Note}
 use Rattle.body_replay.specs.Replay.{Spot, line, node, word_read, word_write}
 use Rattle.cover_marks.specs.Marks.{AreMarksOf}
 use Rattle.cover_marks.specs.declared.marks.Marks.{Marks}
@@ -15,6 +15,7 @@ use Rattle.design_model.specs.declared.point.Point.TheVariants.{Word}
 use Rattle.mark_laws.specs.Marked.{AreVerdicts}
 use Rattle.point_marks.specs.declared.verdict.Verdict.{Verdict}
 use Rattle.mark_laws.specs.replay_model.Marks.{Marking, markings_by}
+use Rattle.written_words.specs.Written.{WrittenState, has_word, is_followed}
 
 -- the visit of a word that is written, or read
 abbrev pub word_visit : ℕ → ℕ → Bool → Visit
@@ -52,3 +53,20 @@ pub record HasReported (s : RunStart) (ns : List Note) (p : ℕ) (ps : Points) (
   pub points : ps ≡ s.points
   pub marks : AreMarksOf s.points m
   pub verdicts : IsRightStart s → AreNotesOf s.design s.process ns → AreVerdicts s.design s.points (s.earlier ++ markings_by s.process ns) m.verdicts
+
+-- the words of the list before are in it still, and so are those that these notes say to be written
+pub record HasListed (before : WrittenState) (ns : List Note) (now : WrittenState) : Type 0 where
+  pub first : now.first ≡ before.first
+  pub ranges : now.ranges ≡ before.ranges
+  pub kept : (m i : ℕ) → has_word before m i ≡ true → has_word now m i ≡ true
+  pub noted : (m i : ℕ) → is_followed now m i ≡ true → HasNote (word_write m i) ns → has_word now m i ≡ true
+
+-- what was reported before a run, and what was listed as written
+pub record TakenStart : Type 0 where
+  pub marks : RunStart
+  pub written : WrittenState
+
+-- both are as these notes make them
+pub record HasTaken (s : TakenStart) (ns : List Note) (p : ℕ) (ps : Points) (m : Marks) (w : WrittenState) : Type 0 where
+  pub reported : HasReported s.marks ns p ps m
+  pub listed : HasListed s.written ns w

@@ -10,11 +10,13 @@ ghost use Rattle.design_model.specs.Design.{Design, body_at};
 ghost use Rattle.design_model.specs.FlipFlop.{line_two};
 ghost use Rattle.design_model.specs.Lawful.{IsLawfulDesign};
 ghost use Rattle.run_marks.specs.Example.{IsReportExample, IsSpotExample};
-ghost use Rattle.run_marks.specs.Reported.{AreNotesOf, HasReported, RunStart};
+ghost use Rattle.run_marks.specs.Reported.{AreNotesOf, HasListed, HasReported, RunStart};
+ghost use Rattle.written_words.specs.Written.{WrittenState};
 
-/// The marks with which a run starts are those of the run before it notes anything.
+/// The marks with which a run starts are those of the run before it notes anything, and so is the list of what is written.
 pub fn start_law()
-    ensures { (s : RunStart) (m : Marks) → AreMarksOf s.points m → s.before ≡ m.verdicts → HasReported s [] s.process s.points m }
+    ensures marks { (s : RunStart) (m : Marks) → AreMarksOf s.points m → s.before ≡ m.verdicts → HasReported s [] s.process s.points m }
+    ensures written { (w : WrittenState) → HasListed w [] w }
 {}
 
 /// What a run of a process of a lawful design notes, in any way, is of points of which the process is a block.

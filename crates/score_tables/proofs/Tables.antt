@@ -1,16 +1,16 @@
 -- The table that is collected with scored verdicts.
-use Rattle.std.proofs.Common.{ℕ, List, [], None, Ok, Err, false, refl, sym, subst}
+use Rattle.std.proofs.Common.{ℕ, List, [], None, Ok, Err, false, refl}
 use Rattle.std.specs.List.{All}
 use Rattle.std.specs.Prelude.{IfOk, Result}
-use Rattle.std.proofs.lemmas.List.Elements.{All-nil, All-weaker}
+use Rattle.std.proofs.lemmas.List.Elements.{All-weaker}
 use Rattle.coverage_db.specs.Table.{IsTable}
 use Rattle.coverage_db.specs.declared.db.Db.{Db}
 use Rattle.cover_points.specs.declared.listing.Points.{Points}
 use Rattle.design_model.specs.Design.{Design}
 use Rattle.design_model.specs.Lawful.{IsLawfulDesign}
+use Rattle.design_model.specs.Points.{StateNames}
 use Rattle.design_model.specs.Shows.{BoundDump, IsWindow}
 use Rattle.design_points.specs.Counted.{AreAllPoints}
-use Rattle.design_points.proofs.Counts.{no_machines}
 use Rattle.event_machine.specs.Habit.{Habit}
 use Rattle.instance_paths.specs.Rooted.{IsRooted}
 use Rattle.verdict_laws.specs.mark_laws.Marked.{AreVerdicts}
@@ -46,25 +46,22 @@ of_design d Hit w = tt
 of_design d Missed w = tt
 of_design d (Undetermined y) w = w.0
 
-module _ (d : Design) (h : Habit) (dump : BoundDump) (ps : Points) (vs : List Verdict) (lawful : IsLawfulDesign d) (all : AreAllPoints d ps) (small : HasSmallTimes dump) (scored : AreScored d h dump ps vs) where
+module _ (d : Design) (h : Habit) (dump : BoundDump) (ms : List StateNames) (ps : Points) (vs : List Verdict) (lawful : IsLawfulDesign d) (all : AreAllPoints d ms ps) (small : HasSmallTimes dump) (scored : AreScored d h dump ps vs) where
   are_written : All (IsWrittenVerdict d) vs
-  are_written = written d h dump [] ps vs scored.replay lawful all.listed small scored.verdicts scored.reasoned
+  are_written = written d h dump ms ps vs scored.replay lawful all.listed small scored.verdicts scored.reasoned
 
   pub are_of_design : All (IsOfDesign d) vs
   are_of_design = All-weaker (IsWrittenVerdict d) (IsOfDesign d) (of_design d) vs are_written
 
-  named : All IsWrittenMachine ps.machines.items
-  named = subst (All IsWrittenMachine) (sym (no_machines d ps.machines.items all.listed.machines)) (All-nil IsWrittenMachine)
-
-  pub score_is : (names : List (List ℕ)) (db : Db) → IsWritten names d → IsRooted d → IsCollected d names ps db → AreShown d vs db.points → IsScoreTable d h dump names db
-  score_is names db is_written rooted is shown =
-      let table : IsTable db = collected_is d names ps vs db lawful is_written ([], all.listed) all.few named are_written is shown in
+  pub score_is : (names : List (List ℕ)) (db : Db) → All IsWrittenMachine ps.machines.items → IsWritten names d → IsRooted d → IsCollected d names ps db → AreShown d vs db.points → IsScoreTable d h dump ms names db
+  score_is names db named is_written rooted is shown =
+      let table : IsTable db = collected_is d names ps vs db lawful is_written (ms, all.listed) all.few named are_written is shown in
       record {
         table = table;
         head = head_is d names ps db rooted is table.instances_rise;
-        listed = lists_points d names [] ps db lawful is_written all.listed named is;
-        sound = sound_table d h dump names [] ps vs scored.replay db lawful is_written all.listed named is table shown scored.verdicts scored.sound;
-        reasoned = reasoned_table d h dump names [] ps vs scored.replay db lawful is_written all.listed named is table shown scored.verdicts scored.reasoned;
+        listed = lists_points d names ms ps db lawful is_written all.listed named is;
+        sound = sound_table d h dump names ms ps vs scored.replay db lawful is_written all.listed named is table shown scored.verdicts scored.sound;
+        reasoned = reasoned_table d h dump names ms ps vs scored.replay db lawful is_written all.listed named is table shown scored.verdicts scored.reasoned;
       }
 
 -- what the collected table and its verdicts say together

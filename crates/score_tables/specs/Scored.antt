@@ -1,10 +1,11 @@
 -- What the table of a score says of a design under a dump.
-use Rattle.std.specs.Prelude.{◌<◌, ◌^◌, ℕ, List, []}
+use Rattle.std.specs.Prelude.{◌<◌, ◌^◌, ℕ, List}
 use Rattle.coverage_db.specs.Table.{IsTable}
 use Rattle.coverage_db.specs.declared.db.Db.{Db}
 use Rattle.cover_points.specs.Listed.{points_of}
 use Rattle.cover_points.specs.declared.listing.Points.{Points}
 use Rattle.design_model.specs.Design.{Design}
+use Rattle.design_model.specs.Points.{StateNames}
 use Rattle.design_model.specs.Shows.{BoundDump, IsListed}
 use Rattle.event_machine.specs.Habit.{Habit}
 use Rattle.verdict_laws.specs.mark_laws.Marked.{AreVerdicts}
@@ -27,10 +28,10 @@ pub record AreScored (d : Design) (h : Habit) (dump : BoundDump) (ps : Points) (
 abbrev pub HasSmallTimes : BoundDump → Type 0
 HasSmallTimes dump = (t : ℕ) → IsListed dump t → t < 2 ^ 63
 
--- the table lists each point of the design once, for which no state machine is named, and what it says of them holds in every run that shows the dump
-pub record IsScoreTable (d : Design) (h : Habit) (dump : BoundDump) (names : List (List ℕ)) (db : Db) : Type 0 where
+-- the table lists each point of the design with these state machines once, and what it says of them holds in every run that shows the dump
+pub record IsScoreTable (d : Design) (h : Habit) (dump : BoundDump) (ms : List StateNames) (names : List (List ℕ)) (db : Db) : Type 0 where
   pub table : IsTable db
   pub head : HasHead d names db
-  pub listed : ListsPoints d [] db
-  pub sound : IsSound d h dump [] db
-  pub reasoned : IsReasoned d h dump [] db
+  pub listed : ListsPoints d ms db
+  pub sound : IsSound d h dump ms db
+  pub reasoned : IsReasoned d h dump ms db

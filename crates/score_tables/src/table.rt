@@ -1,12 +1,13 @@
-ghost use Rattle.std.specs.Prelude.{IfOk};
+ghost use Rattle.std.specs.Prelude.{All, IfOk, List};
 ghost use Rattle.cover_marks.specs.Marks.{AreMarksOf};
 ghost use Rattle.design_model.specs.Lawful.{IsLawfulDesign};
+ghost use Rattle.design_model.specs.Points.{StateNames};
 ghost use Rattle.design_model.specs.Shows.{BoundDump};
 ghost use Rattle.design_model.specs.View.{design_view};
 ghost use Rattle.design_points.specs.Counted.{AreAllPoints};
 ghost use Rattle.event_machine.specs.Habit.{Habit};
 ghost use Rattle.instance_paths.specs.Rooted.{IsRooted};
-ghost use Rattle.verdict_laws.specs.table_laws.Written.{IsWritten};
+ghost use Rattle.verdict_laws.specs.table_laws.Written.{IsWritten, IsWrittenMachine};
 ghost use Rattle.score_tables.specs.Scored.{AreScored, HasSmallTimes, IsScoreTable};
 
 use cov_host::{Name, NoMemory, Sequence};
@@ -28,10 +29,12 @@ pub fn score_table(
     requires lawful { IsLawfulDesign (design_view design.now) }
     requires written { IsWritten sources (design_view design.now) }
     requires rooted { IsRooted (design_view design.now) }
-    requires points { AreAllPoints (design_view design.now) points.now }
+    requires points { (ms : List StateNames) × AreAllPoints (design_view design.now) ms points.now }
+    requires named { All IsWrittenMachine points.now.machines.items }
     requires marks { AreMarksOf points.now marks.now }
     requires scored { (h : Habit) × (dump : BoundDump) × HasSmallTimes dump × AreScored (design_view design.now) h dump points.now marks.now.verdicts }
-    ensures { (h : Habit) (dump : BoundDump) → HasSmallTimes dump → AreScored (design_view design.now) h dump points.now marks.now.verdicts → IfOk result (IsScoreTable (design_view design.now) h dump sources) }
+    ensures { (h : Habit) (dump : BoundDump) (ms : List StateNames) → AreAllPoints (design_view design.now) ms points.now → HasSmallTimes dump → AreScored (design_view design.now) h dump points.now marks.now.verdicts
+        → IfOk result (IsScoreTable (design_view design.now) h dump ms sources) }
 {
     collect(alloc, design, points, marks, sources)
 }

@@ -1,7 +1,7 @@
 -- Whether a Comb has surely acted, by the flags and by what it watches.
-use Rattle.std.proofs.Common.{◌≡◌, ℕ, zero, suc, ◌+◌, ◌<◌, ◌≤◌, ◌&&◌, ◌||◌, Bool, true, false, not, List, [], ◌∷◌, map, length, Option, refl, sym, ap, ap₂, subst, ◌∙◌, arith, inl, inr}
+use Rattle.std.proofs.Common.{◌≡◌, ℕ, zero, suc, ◌+◌, ◌<◌, ◌≤◌, ◌&&◌, ◌||◌, Bool, true, false, not, List, [], ◌∷◌, map, length, Option, refl, sym, ap, ap₂, subst, ◌∙◌, arith, inl, inr, lt-ltb, nat_lt}
 use Rattle.std.specs.List.{All, list_any, range_with_len}
-use Rattle.std.proofs.lemmas.Bool.{and_from, and_parts, cases_eq, false≢true, or_cases, or_left, or_right}
+use Rattle.std.proofs.lemmas.Bool.{and_from, and_parts, cases_eq, ltb-true, false≢true, or_cases, or_left, or_right}
 use Rattle.std.proofs.lemmas.List.Elements.{All-head, All-tail}
 use Rattle.design_model.specs.Design.{In, IsComb, body_at, process_at}
 use Rattle.design_model.specs.Mentions.{body_mentions}
@@ -49,28 +49,29 @@ module _ (st : Closing) (p : ℕ) (row : List Wake) (changed : List ℕ) (are : 
 
   -- what the process watches is mentioned and has changed
   abbrev wakes : Wake → Bool
-  wakes w = w.mentioned && is_in changed w.thing
+  wakes w = w.mentioned && (nat_lt w.thing (length st.design.signals) && is_in changed w.thing)
 
-  seen_from : (ws : List Wake) → All (IsWakeOf st.design p) ws → All (λ w. w.thing < length st.design.signals) ws → list_any wakes ws ≡ true → list_any sees (range_with_len 0 (length st.design.signals)) ≡ true
-  seen_from [] each signals e = absurd (false≢true e)
-  seen_from (w ∷ ws) each signals e = elim (or_cases (wakes w) (list_any wakes ws) e) [
+  seen_from : (ws : List Wake) → All (IsWakeOf st.design p) ws → list_any wakes ws ≡ true → list_any sees (range_with_len 0 (length st.design.signals)) ≡ true
+  seen_from [] each e = absurd (false≢true e)
+  seen_from (w ∷ ws) each e = elim (or_cases (wakes w) (list_any wakes ws) e) [
     | inl h ↦
-        let l : w.thing < length st.design.signals = All-head (λ y. y.thing < length st.design.signals) w ws signals in
         let wake : IsWakeOf st.design p w = All-head (IsWakeOf st.design p) w ws each in
-        let parts = and_parts w.mentioned (is_in changed w.thing) h in
-        let dump = and_parts (st.bound w.thing) (dump_changes st w.thing) (sym (are w.thing l) ∙ parts.1) in
+        let parts = and_parts w.mentioned _ h in
+        let inner = and_parts (nat_lt w.thing (length st.design.signals)) (is_in changed w.thing) parts.1 in
+        let l : w.thing < length st.design.signals = ltb-true w.thing (length st.design.signals) inner.0 in
+        let dump = and_parts (st.bound w.thing) (dump_changes st w.thing) (sym (are w.thing l) ∙ inner.1) in
         any_at sees 0 (length st.design.signals) w.thing (omega arith) (omega (arith, l)) (and_from (st.bound w.thing) _ dump.0 (and_from (body_mentions w.thing (body_at st.design p)) _ (sym wake.mentioned ∙ parts.0) dump.1))
-    | inr h ↦ seen_from ws (All-tail (IsWakeOf st.design p) w ws each) (All-tail (λ y. y.thing < length st.design.signals) w ws signals) h
+    | inr h ↦ seen_from ws (All-tail (IsWakeOf st.design p) w ws each) h
   ]
 
-  wakes_from : (ws : List Wake) → All (IsWakeOf st.design p) ws → (s : ℕ) → In s (map (λ w. w.thing) ws) → body_mentions s (body_at st.design p) ≡ true → is_in changed s ≡ true → list_any wakes ws ≡ true
+  wakes_from : (ws : List Wake) → All (IsWakeOf st.design p) ws → (s : ℕ) → In s (map (λ w. w.thing) ws) → body_mentions s (body_at st.design p) ≡ true → (nat_lt s (length st.design.signals) && is_in changed s) ≡ true → list_any wakes ws ≡ true
   wakes_from [] each s i m e = absurd i
   wakes_from (w ∷ ws) each s (inl is) m e =
       let wake : IsWakeOf st.design p w = All-head (IsWakeOf st.design p) w ws each in
-      or_left (wakes w) (list_any wakes ws) (and_from w.mentioned _ (wake.mentioned ∙ ap (λ y. body_mentions y (body_at st.design p)) is ∙ m) (ap (is_in changed) is ∙ e))
+      or_left (wakes w) (list_any wakes ws) (and_from w.mentioned _ (wake.mentioned ∙ ap (λ y. body_mentions y (body_at st.design p)) is ∙ m) (ap (λ y. nat_lt y (length st.design.signals) && is_in changed y) is ∙ e))
   wakes_from (w ∷ ws) each s (inr i) m e = or_right (wakes w) (list_any wakes ws) (wakes_from ws (All-tail (IsWakeOf st.design p) w ws each) s i m e)
 
-  module _ (each : All (IsWakeOf st.design p) row) (things : map (λ w. w.thing) row ≡ st.tables.watched p) (signals : All (λ w. w.thing < length st.design.signals) row) (watched : (x : ℕ) → body_mentions x (body_at st.design p) ≡ true → In x (st.tables.watched p)) where
+  module _ (each : All (IsWakeOf st.design p) row) (things : map (λ w. w.thing) row ≡ st.tables.watched p) (watched : (x : ℕ) → body_mentions x (body_at st.design p) ≡ true → In x (st.tables.watched p)) where
     -- by the range of the signals it is found in the row
     back : list_any sees (range_with_len 0 (length st.design.signals)) ≡ true → list_any wakes row ≡ true
     back e =
@@ -80,10 +81,10 @@ module _ (st : Closing) (p : ℕ) (row : List Wake) (changed : List ℕ) (are : 
         let l : s < length st.design.signals = omega (arith, below) in
         let parts = and_parts (st.bound s) _ found.passes in
         let rest = and_parts (body_mentions s (body_at st.design p)) (dump_changes st s) parts.1 in
-        wakes_from row each s (subst (In s) (sym things) (watched s rest.0)) rest.0 (are s l ∙ and_from (st.bound s) _ parts.0 rest.1)
+        wakes_from row each s (subst (In s) (sym things) (watched s rest.0)) rest.0 (and_from (nat_lt s (length st.design.signals)) _ (lt-ltb s (length st.design.signals) l) (are s l ∙ and_from (st.bound s) _ parts.0 rest.1))
 
-    pub sees_is : sees_by row changed ≡ sees_change st p
-    sees_is = same_tests (list_any wakes row) (list_any sees (range_with_len 0 (length st.design.signals))) (seen_from row each signals) back
+    pub sees_is : sees_by (length st.design.signals) row changed ≡ sees_change st p
+    sees_is = same_tests (list_any wakes row) (list_any sees (range_with_len 0 (length st.design.signals))) (seen_from row each) back
 
 comb_from : (q : Process) → is_comb q ≡ true → IsComb q
 comb_from (assign i x t counted) e = absurd (false≢true e)
@@ -95,16 +96,16 @@ comb_test (assign i x t counted) e = absurd e
 comb_test (comb i wakes s) e = refl
 comb_test (clocked i events s) e = absurd e
 
-module _ (st : Closing) (w : Working) (p : ℕ) (wakes : List (List Wake)) (codes : List (Option ℕ)) (changed : List ℕ) (time : ℕ) (step : IsStepOf st p wakes codes changed time) (signals : All (λ y. y.thing < length st.design.signals) (row_at wakes p)) (flags : List Bool) (acted : AreActed st.design flags w.acted) (how : Certainty) where
-  pub acts_is : is_comb (process_at st.design p) ≡ true → acts_by flags p how (row_at wakes p) changed ≡ acts st p how w
+module _ (st : Closing) (w : Working) (p : ℕ) (wakes : List (List Wake)) (codes : List (Option ℕ)) (changed : List ℕ) (time : ℕ) (step : IsStepOf st p wakes codes changed time) (flags : List Bool) (acted : AreActed st.design flags w.acted) (how : Certainty) where
+  pub acts_is : is_comb (process_at st.design p) ≡ true → acts_by flags p how (length st.design.signals) (row_at wakes p) changed ≡ acts st p how w
   acts_is e =
       ap₂ (λ a b. a || (is_clean_way how || b)) (acted p (comb_from (process_at st.design p) e))
-      (sees_is st p (row_at wakes p) changed step.changed step.wakes.each step.wakes.things signals step.watched)
+      (sees_is st p (row_at wakes p) changed step.changed step.wakes.each step.wakes.things step.watched)
 
   -- what a run makes holds
-  pub holds_is : (not (is_comb (process_at st.design p)) || acts_by flags p how (row_at wakes p) changed) ≡ (not (is_comb (process_at st.design p)) || acts st p how w)
+  pub holds_is : (not (is_comb (process_at st.design p)) || acts_by flags p how (length st.design.signals) (row_at wakes p) changed) ≡ (not (is_comb (process_at st.design p)) || acts st p how w)
   holds_is = go (is_comb (process_at st.design p)) refl
     where
-      go : (t : Bool) → is_comb (process_at st.design p) ≡ t → (not t || acts_by flags p how (row_at wakes p) changed) ≡ (not t || acts st p how w)
+      go : (t : Bool) → is_comb (process_at st.design p) ≡ t → (not t || acts_by flags p how (length st.design.signals) (row_at wakes p) changed) ≡ (not t || acts st p how w)
       go true e = acts_is e
       go false e = refl

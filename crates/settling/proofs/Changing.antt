@@ -7,7 +7,6 @@ use Rattle.std.proofs.lemmas.List.{take_more}
 use Rattle.std.proofs.lemmas.List.Folds.{list_any_more}
 use Rattle.four_state.specs.Masks.{is_set}
 use Rattle.design_model.specs.Design.{Design, cell, signal_at, signal_cells}
-use Rattle.design_model.proofs.Lawful.{same_bit_self}
 use Rattle.four_state.specs.declared.bit.Bit.{Bit}
 use Rattle.body_replay.specs.KnownBits.{KnownBits}
 use Rattle.body_replay.specs.Store.{Kept}
@@ -25,7 +24,7 @@ use Rattle.settled_targets.proofs.step_values.Forgets.{here}
 use Rattle.wake_bits.specs.Laws.{IsWakeOf}
 use Rattle.wake_bits.specs.declared.wakes.Wake.{Wake}
 use Rattle.settling.specs.Wakes.{HasState, things_of}
-use Rattle.settling.proofs.Masks.{none_free, not_all_free, some_free}
+use Rattle.settling.proofs.Masks.{not_all_free, some_free}
 
 -- ---- the tests of two bits
 
@@ -40,10 +39,6 @@ same_same None None = refl
 same_same None (Some y) = refl
 same_same (Some x) None = refl
 same_same (Some x) (Some y) = refl
-
-differ_self : (p : Option Bit) → surely_differ p p ≡ false
-differ_self None = refl
-differ_self (Some x) = ap not (same_bit_self x)
 
 module _ (st : Closing) (w : Working) (p : ℕ) (y : Wake) (wake : IsWakeOf st.design p y) (signal : y.thing < length st.design.signals) where
   abbrev s : ℕ
@@ -69,14 +64,6 @@ module _ (st : Closing) (w : Working) (p : ℕ) (y : Wake) (wake : IsWakeOf st.d
     unsure_is moves bits =
         not_all_free st.design p y wake signal m (λ c. surely_same (st.start.kept c) (w.kept c)) (λ j l. bits j (omega (arith, l, size)) ∙ ap not (ap₂ b.surely_same (bit_before j l) (bit_now j l) ∙ same_same _ _))
         ∙ ap (λ t. not (not t || list_all (λ c. surely_same (st.start.kept c) (w.kept c)) (wake_cells st.design p s))) (sym moves)
-
-  -- ---- what may not move
-
-  pub still_unchanged : ((j : ℕ) → w.kept (cell s j) ≡ st.start.kept (cell s j)) → has_changed st w.kept p s ≡ false
-  still_unchanged same = none_free st.design p y wake signal (λ c. surely_differ (st.start.kept c) (w.kept c)) (λ j. ap (surely_differ (st.start.kept (cell s j))) (same j) ∙ differ_self (st.start.kept (cell s j)))
-
-  pub still_sure : st.sets.moves s ≡ false → is_still st w.kept p s ≡ true
-  still_sure none = ap (λ t. not t || list_all (λ c. surely_same (st.start.kept c) (w.kept c)) (wake_cells st.design p s)) none
 
 -- ---- a row, one signal after the other
 
@@ -124,12 +111,6 @@ module _ (st : Closing) (k : Kept) (p : ℕ) where
 module _ (st : Closing) (w : Working) (p : ℕ) (x : Store) (v : StepVectors) (sets : WakeState) (y : Wake) (state : HasState st w x v sets) (wake : IsWakeOf st.design p y) (inside : y.thing < length (design_view x.design.now).signals) where
   signal : y.thing < length st.design.signals
   signal = here (λ e. y.thing < length e.signals) st.design w.kept x state.values.knows inside
-
-  -- of what may not move nothing has changed
-  pub unmoved : is_in sets.moves y.thing ≡ false → (has_changed st w.kept p y.thing ≡ false) × (is_still st w.kept p y.thing ≡ true)
-  unmoved none =
-      let still : st.sets.moves y.thing ≡ false = state.moves y.thing ∙ none in
-      (still_unchanged st w p y wake signal (λ j. state.still.kept (cell y.thing j) still), still_sure st w p y wake signal still)
 
   module _ (q r : Partly) (m : ℕ) (moves : is_in sets.moves y.thing ≡ true) (before : q ≡ vector_at v.before y.thing) (now : (d : Design) (k : Kept) → Knows d k x → r.bits ≡ map k (signal_cells d y.thing)) where
     may : st.sets.moves y.thing ≡ true

@@ -1,5 +1,6 @@
 pub mod Masks
 pub mod Changing
+pub mod Words
 pub mod Acts
 pub mod Targets
 pub mod Stepping

@@ -32,7 +32,10 @@ use Rattle.step_parts.specs.AtStep.{AreActed}
 use Rattle.settling.specs.Runs.{AtPoint, IsStepOf, acts_by, outcome_at}
 use Rattle.settling.specs.Wakes.{HasState}
 use Rattle.settling.proofs.Acts.{comb_test, holds_is}
+use Rattle.settled_runs.specs.process_targets.Laws.{WritesSignals}
+use Rattle.step_words.specs.Words.{StepState}
 use Rattle.settling.proofs.Targets.{kept_is, made_is}
+use Rattle.settling.proofs.Words.{changes_after}
 
 -- the outcome is that of the body, in the way that the code has found
 pub outcome_is : (st : Closing) (w : Working) (p : ℕ) (how : Certainty) → st.run ≡ runs_of st.design → how ≡ certainty st w.kept p → outcome_at st w p ≡ runs_of st.design p (plain_store (settled_kept st.design p w.kept)) how
@@ -44,10 +47,10 @@ outcome_is st w p how runs is =
 pub touched_is : (st : Closing) (ordered : Bool) (p : ℕ) (w : Working) → is_touched st p ≡ true → run_settling st ordered p w ≡ after_settling st ordered p (certainty st w.kept p) (outcome_at st w p) w
 touched_is st ordered p w e = ap (λ t. if t then after_settling st ordered p (certainty st w.kept p) (outcome_at st w p) w else w) e
 
-module _ (st : Closing) (w : Working) (p : ℕ) (ordered : Bool) (how : Certainty) (row : List Bits) (wakes : List (List Wake)) (codes : List (Option ℕ)) (changed : List ℕ) (time : ℕ) (sets : WakeState) (flags : List Bool) (x z y : Store) (v u : StepVectors) (qs : List Partly) (is_kept is_made : Bool)
-    (lawful : IsLawfulDesign st.design) (runs : AreRuns st.design (runs_of st.design)) (settles : IsClocked (process_at st.design p) → ⊥) (targets : AreTargets st.design p row) (signals : All (λ k. k.thing < length st.design.signals) (row_at wakes p))
-    (point : AtPoint st w x v sets flags) (step : IsStepOf st p wakes codes changed time) (touched : is_touched st p ≡ true) (how_is : how ≡ certainty st w.kept p)
-    (made : is_made ≡ (not (is_comb (process_at st.design p)) || acts_by flags p how (row_at wakes p) changed)) (kept : is_kept ≡ (ordered && is_made))
+module _ (st : Closing) (w : Working) (p : ℕ) (ordered : Bool) (how : Certainty) (row : List Bits) (wakes : List (List Wake)) (codes : List (Option ℕ)) (changed : List ℕ) (time : ℕ) (sets : WakeState) (flags : List Bool) (x z y : Store) (v u : StepVectors) (words : StepState) (qs : List Partly) (is_kept is_made : Bool)
+    (lawful : IsLawfulDesign st.design) (runs : AreRuns st.design (runs_of st.design)) (settles : IsClocked (process_at st.design p) → ⊥) (targets : AreTargets st.design p row)
+    (point : AtPoint st w x v words sets flags) (step : IsStepOf st p wakes codes changed time) (touched : is_touched st p ≡ true) (how_is : how ≡ certainty st w.kept p)
+    (made : is_made ≡ (not (is_comb (process_at st.design p)) || acts_by flags p how (length st.design.signals) (row_at wakes p) changed)) (kept : is_kept ≡ (ordered && is_made))
     (saved : AreSaved st.design w.kept row qs) (left : Knows st.design (runs_of st.design p (plain_store (settled_kept st.design p w.kept)) how).kept z)
     (back : Returns codes (names row) (row_has row) is_kept is_made (λ d k. AreSaved d k row qs) z y v u) where
   abbrev d : Design
@@ -63,7 +66,7 @@ module _ (st : Closing) (w : Working) (p : ℕ) (ordered : Bool) (how : Certaint
   after_is = touched_is st ordered p w touched ∙ ap₂ (λ (h : Certainty) (r : Outcome). after_settling st ordered p h r w) (sym how_is) (outcome_is st w p how step.runs how_is)
 
   made_test : is_made ≡ (not (is_comb (process_at d p)) || acts st p how w)
-  made_test = made ∙ holds_is st w p wakes codes changed time step signals flags point.acted how
+  made_test = made ∙ holds_is st w p wakes codes changed time step flags point.acted how
 
   kept_test : is_kept ≡ (ordered && (not (is_comb (process_at d p)) || acts st p how w))
   kept_test = kept ∙ ap (λ t. ordered && t) made_test
@@ -116,9 +119,10 @@ module _ (st : Closing) (w : Working) (p : ℕ) (ordered : Bool) (how : Certaint
       other false = refl
 
   -- all parts of the step
-  pub point_after : p < length flags → AtPoint st (run_settling st ordered p w) y u sets flagged
-  point_after place = record {
+  pub point_after : p < length flags → WritesSignals d p → AtPoint st (run_settling st ordered p w) y u words sets flagged
+  point_after place signals = record {
     state = state_after;
+    words = changes_after st w p ordered words signals point.words;
     acted = subst (λ a. AreActed d flagged a.acted) (sym after_is) (λ q comb. flag_at place q (q == p) refl comb);
   }
 

@@ -13,4 +13,5 @@ pub use Rattle.step_parts.specs.replay_model as replay_model
 pub use Rattle.step_parts.specs.replay_sets as replay_sets
 pub use Rattle.step_parts.specs.step_changes as step_changes
 pub use Rattle.step_parts.specs.step_wakes as step_wakes
+pub use Rattle.step_words.specs as step_words
 pub use Rattle.wake_bits.specs as wake_bits

@@ -1,6 +1,8 @@
 -- What wakes a process in a step, and the parts of the code beside the definition of the step.
 use Rattle.std.specs.Prelude.{◌≡◌, ℕ, List, map}
-use Rattle.design_model.specs.Design.{body_at}
+use Rattle.design_model.specs.Design.{In, body_at}
+use Rattle.body_replay.specs.Store.{Kept}
+use Rattle.step_words.specs.Words.{AreWordChanges, StepState}
 use Rattle.design_model.specs.Mentions.{blocking_target, body_mentions}
 use Rattle.early_sets.specs.Has.{is_in}
 use Rattle.early_sets.specs.WakeState.{WakeState}
@@ -25,3 +27,11 @@ pub record HasState (st : Closing) (w : Working) (x : Store) (v : StepVectors) (
   pub values : HasValues st w x v
   pub still : IsStillAt st w
   pub moves : (s : ℕ) → st.sets.moves s ≡ is_in sets.moves s
+
+-- some process watches the signal or memory
+abbrev pub IsWatched : Closing → ℕ → Type 0
+IsWatched st m = (p : ℕ) × In m (st.tables.watched p)
+
+-- of each memory that a process watches it is found how its words have changed from the start of the step to what is kept
+abbrev pub HasWordChanges : Closing → Kept → StepState → Type 0
+HasWordChanges st k x = AreWordChanges st.design (IsWatched st) st.start.kept k x

@@ -6,6 +6,7 @@ use index_sets::{IndexSet, Rows};
 use settled_runs::Bits;
 use settled_targets::SavedValues;
 use step_parts::Piece;
+use step_words::StepWords;
 use value_store::Queue;
 use wake_bits::Wake;
 
@@ -30,14 +31,25 @@ pub struct Found<'a> {
     pub sets: &'a Wakes,
     /// The signals whose value in the dump has changed.
     pub changed: &'a IndexSet,
+    /// The memories of which a word has changed.
+    pub words: &'a StepWords,
     /// The time at which the step ends.
     pub time: u64,
 }
 
 /// Room for the run of one process at a time.
-#[derive(Drop)]
 pub struct Scratch {
     pub saved: SavedValues,
     /// The parts of an assignment, none between runs.
     pub pieces: Queue<Piece>,
+}
+
+// Written out so that a crate which lets one go does not prove again how each of its parts is let go.
+impl Drop for Scratch {
+    fn drop(self) {
+        let Scratch {
+            saved: _,
+            pieces: _,
+        } = self;
+    }
 }

@@ -10,6 +10,7 @@ ghost use Rattle.index_sets.specs.Rows.{row_at};
 ghost use Rattle.step_parts.specs.replay_model.Step.{Closing, Working, is_touched, run_settling};
 ghost use Rattle.settled_runs.specs.store_knowledge.Knows.{Knows};
 ghost use Rattle.settled_targets.specs.step_values.Vectors.{FitsSignals};
+ghost use Rattle.step_words.specs.Words.{IsOfMemories};
 ghost use Rattle.settling.specs.Runs.{AtPoint, HasRows, IsStepOf, outcome_at};
 
 use crate::acting::{is_kept, result_holds};
@@ -18,6 +19,7 @@ use crate::settled::run_saved;
 use crate::{Found, ProcessRows, Scratch};
 use body_replay::runs_lawful;
 use body_store::Store;
+use process_targets::settled_law;
 use settled_runs::BlockNotes;
 use settled_targets::StepValues;
 use std::sync::ledger::Ledger;
@@ -47,7 +49,8 @@ pub fn run<N: BlockNotes, L: Ledger>(
     requires known { (d : Design) × (k : Kept) × Knows d k store.old }
     requires fits { FitsSignals (design_view store.old.design.now) values.old }
     requires flags { length acted.old ≡ length rows.now.design.now.processes }
-    requires things { length rows.now.design.now.signals ≤ (state_of found.now.sets.now).tables.things }
+    requires things { length rows.now.design.now.signals + length rows.now.design.now.memories ≤ (state_of found.now.sets.now).tables.things }
+    requires memories { IsOfMemories (design_view rows.now.design.now) found.now.words.now }
     requires changed { length rows.now.design.now.signals ≤ found.now.changed.now.size }
     requires room { length (row_at rows.now.targets.now process) ≤ length scratch.old.saved }
     requires none { scratch.old.pieces.items ≡ [] }
@@ -56,16 +59,17 @@ pub fn run<N: BlockNotes, L: Ledger>(
     ensures known { (d : Design) × (k : Kept) × Knows d k store.new }
     ensures fits { FitsSignals (design_view store.new.design.now) values.new }
     ensures flags { length acted.new ≡ length acted.old }
-    ensures step { (st : Closing) (w : Working) → AtPoint st w store.old values.old (state_of found.now.sets.now) acted.old → IsStepOf st process rows.now.wakes.now rows.now.codes.now found.now.changed.now.items found.now.time → is_touched st process ≡ true → AtPoint st (run_settling st is_ordered process w) store.new values.new (state_of found.now.sets.now) acted.new }
-    ensures notes { (st : Closing) (w : Working) → AtPoint st w store.old values.old (state_of found.now.sets.now) acted.old → IsStepOf st process rows.now.wakes.now rows.now.codes.now found.now.changed.now.items found.now.time → AddsNotes N.noted notes.old (outcome_at st w process).notes notes.new }
+    ensures step { (st : Closing) (w : Working) → AtPoint st w store.old values.old found.now.words.now (state_of found.now.sets.now) acted.old → IsStepOf st process rows.now.wakes.now rows.now.codes.now found.now.changed.now.items found.now.time → is_touched st process ≡ true → AtPoint st (run_settling st is_ordered process w) store.new values.new found.now.words.now (state_of found.now.sets.now) acted.new }
+    ensures notes { (st : Closing) (w : Working) → AtPoint st w store.old values.old found.now.words.now (state_of found.now.sets.now) acted.old → IsStepOf st process rows.now.wakes.now rows.now.codes.now found.now.changed.now.items found.now.time → AddsNotes N.noted notes.old (outcome_at st w process).notes notes.new }
     ensures took { (ns : List Note) × AddsNotes N.noted notes.old ns notes.new }
     ensures room { length scratch.new.saved ≡ length scratch.old.saved }
     ensures pieces { scratch.new.pieces ≡ scratch.old.pieces }
     ensures steps { steps.new ≡ steps.old + 1 }
 {
     runs_lawful();
+    settled_law();
     let wakes = rows.wakes.row(process);
-    let how = certainty(values, store, found.sets, wakes, found.time);
+    let how = certainty(values, store, found.sets, found.words, wakes, found.time);
     run_saved(store, rows, process, how, scratch, notes, steps);
     let processes = rows.design.processes.as_slice();
     let holds = result_holds(
@@ -74,6 +78,7 @@ pub fn run<N: BlockNotes, L: Ledger>(
         &processes[process],
         how,
         wakes,
+        rows.design.signals.len(),
         found.changed,
     );
     scratch.saved.put_back(

@@ -70,7 +70,6 @@ lex_refused words sources (lex_fault.At k place detail) is (fault.Refused refusa
     (record { place = place; found = is; no_file = λ same. other_kind sources words.defines k place detail is none (let e : kind.Lex k ≡ kind.Lex IncludeMissing = same in cc); spot = refl })
 lex_refused words sources (lex_fault.At k place detail) is (fault.File call file) (none, refusal_is) = absurd refusal_is
 lex_refused words sources (lex_fault.At k place detail) is (fault.Included call path) (none, refusal_is) = absurd refusal_is
-lex_refused words sources (lex_fault.At k place detail) is fault.NotYet (none, refusal_is) = absurd refusal_is
 
 pub refused_by : (words : SourceValues) (sources : List SourceText) (f : LexFault) → IsFault (tokens_of sources words.defines) f → (result : Result Found SourceFault) → IfErr result (IsLexFault sources f) → IfErr result (IsStageFault words sources)
 refused_by words sources f is (Ok what) refused = tt
@@ -84,7 +83,6 @@ parse_refused words sources tokens (parse_fault.At k place detail) lexed is (fau
     subst (AreRefused sources words.defines words.top) (sym refusal_is) (record { place = place; found = (tokens, lexed, is); no_file = λ same. cc; spot = refl })
 parse_refused words sources tokens (parse_fault.At k place detail) lexed is (fault.File call file) refusal_is = absurd refusal_is
 parse_refused words sources tokens (parse_fault.At k place detail) lexed is (fault.Included call path) refusal_is = absurd refusal_is
-parse_refused words sources tokens (parse_fault.At k place detail) lexed is fault.NotYet refusal_is = absurd refusal_is
 
 -- a refusal of elaboration
 elab_at : (words : SourceValues) (sources : List SourceText) (k : SourceKind) (place : Option Place) (detail : Option (List ℕ)) → IsFoundAt sources words.defines words.top k place detail → (k ≢ kind.Lex IncludeMissing) → (other : SourceFault) → IsRefusal sources k place detail other → IsStageFault words sources other
@@ -93,7 +91,6 @@ elab_at words sources k place detail found no_file (fault.Refused refusal) is =
     subst (AreRefused sources words.defines words.top) (sym is) (record { place = place; found = found; no_file = no_file; spot = refl })
 elab_at words sources k place detail found no_file (fault.File call file) is = absurd is
 elab_at words sources k place detail found no_file (fault.Included call path) is = absurd is
-elab_at words sources k place detail found no_file fault.NotYet is = absurd is
 
 told_refused : (words : SourceValues) (sources : List SourceText) (modules : List t.Module) (f : Fault) → AreAccepted sources words.defines modules → answer modules words.top ≡ Err f → (other : SourceFault) → IsElabFault sources (told f) other → IsStageFault words sources other
 told_refused words sources modules (of_constant k place) accepted first other is =
@@ -145,7 +142,6 @@ module _ (words : SourceValues) (before : Outside) where
   stage_fault after sources begun (fault.File call file) is = absurd is
   stage_fault after sources begun (fault.Included call path) is = absurd is
   stage_fault after sources begun (fault.Refused refusal) is = inl (record { sources = sources; begun = begun; refused = is })
-  stage_fault after sources begun fault.NotYet is = record { sources = sources; gathered = gathered sources is.accepted.tokens begun is.accepted.lexed; no_form = is }
 
   -- why an included file did not join
   pub include_fault : (middle after : Outside) (sources : List SourceText) (name : List ℕ) → OnlyReads before middle → OnlyReads middle after → HasBegun words before sources → Lacks sources words.defines name
@@ -156,7 +152,6 @@ module _ (words : SourceValues) (before : Outside) where
       (record { sources = sources; name = name; begun = begun; lacks = lacks; path_is = is.0 }, call_earlier path before middle after call first second (subst (λ p. IsRefusedCall middle after p call) (sym is.0) is.1))
   include_fault middle after sources name first second begun lacks (fault.Refused refusal) is =
       inr (inr (record { sources = sources; name = name; begun = begun; lacks = lacks; not_fit = record { text = is.text; is = file_as_before (path_of words.folder name) is.text before.files middle.files first.files is.is; lex_kind = is.lex_kind; refused = is.refused; kind_is = is.kind_is; spot = is.spot } }))
-  include_fault middle after sources name first second begun lacks fault.NotYet is = absurd is
 
   -- why a file of the words did not join
   pub root_fault : (after : Outside) (r : RootFault) (f : SourceFault) → IsRootFault before after words.files r → IsFileFault r.file.now r.fault f → IsSourceFault words before after f
@@ -172,7 +167,6 @@ module _ (words : SourceValues) (before : Outside) where
       go (join_fault.Refused call) fault.NoMemory stands is = absurd is
       go (join_fault.Refused call) (fault.Included other path) stands is = absurd is
       go (join_fault.Refused call) (fault.Refused refusal) stands is = absurd is
-      go (join_fault.Refused call) fault.NotYet stands is = absurd is
       go (join_fault.Full kind detail) f stands is =
           subst (IsSourceFault words before after) (sym is) (inr (inl (record {
             front = root.front;

@@ -31,10 +31,9 @@ use Rattle.source_files.specs.Files.{Grow, IsFile, Lacks, path_of}
 use Rattle.source_files.specs.Joining.{IsRefusedCall}
 use Rattle.source_files.proofs.Growing.{grow_within, grows_on, lacking_there, root_fits, root_there, settled}
 use Rattle.source_files.proofs.OneList.{one_list, one_list_of_roots, one_text}
-use Rattle.source_design.specs.Form.{HasNoMemory}
 use Rattle.source_design.specs.Accepted.{AreAccepted, AreFaulty, StandFor}
 use Rattle.source_design.specs.Reading.{HasBegun, HasFullInclude, HasFullRoot, HasSources, IsSourceFault, LacksAt}
-use Rattle.source_design.specs.Refusals.{AreOfNoForm, AreRefused, IsFoundAt}
+use Rattle.source_design.specs.Refusals.{AreRefused, IsFoundAt}
 use Rattle.source_design.specs.Words.{SourceValues}
 use Rattle.source_design.specs.declared.fault.SourceFault.{SourceFault}
 use Rattle.source_design.specs.declared.fault.SourceFault.TheVariants as fault
@@ -96,13 +95,6 @@ one_design sources defines top a b one other =
     let same = one_list_of_modules sources defines other.modules one.modules other.accepted one.accepted in
     let flat : answer one.modules top ≡ Ok (design_view b) = subst (λ ms. answer ms top ≡ Ok (design_view b)) same other.flat in
     one_ok (answer one.modules top) (design_view a) (design_view b) one.flat flat
-
-no_form_or_design : (sources : List SourceText) (defines : List DefineText) (top : List ℕ) (design : Design) → AreOfNoForm sources defines top → StandFor sources defines top design → ⊥
-no_form_or_design sources defines top design formless stands =
-    let same = one_list_of_modules sources defines stands.modules formless.modules stands.accepted formless.accepted in
-    let flat : answer formless.modules top ≡ Ok (design_view design) = subst (λ ms. answer ms top ≡ Ok (design_view design)) same stands.flat in
-    let is : design_view design ≡ formless.design = one_ok (answer formless.modules top) (design_view design) formless.design flat formless.flat in
-    formless.more (subst HasNoMemory is stands.memories)
 
 -- sources in which a fault stands lack no file
 refused_lack : (sources : List SourceText) (defines : List DefineText) (top : List ℕ) (refusal : SourceRefusal) → AreRefused sources defines top refusal → (name : List ℕ) → Lacks sources defines name → ⊥
@@ -185,7 +177,6 @@ module _ (words : SourceValues) (before : Outside) (all : List SourceText) (told
       let file = include_reads path is.0 in
       none (call_counted before after path file.0 call told file.1 is.1)
   files_read after none (fault.Refused refusal) is = tt
-  files_read after none fault.NotYet is = tt
 
   -- sources with a design have no fault but want of memory
   pub design_or_fault : (design : Design) → StandFor all words.defines words.top design → (after : Outside) → (IsCounted before.faults after.faults → ⊥) → (f : SourceFault) → IsSourceFault words before after f → f ≡ fault.NoMemory
@@ -197,5 +188,3 @@ module _ (words : SourceValues) (before : Outside) (all : List SourceText) (told
       absurd (design_or_refused all words.defines words.top design refusal stands (subst (λ ss. AreRefused ss words.defines words.top refusal) same refused.refused))
   design_or_fault design stands after none (fault.Refused refusal) (inr (inl full)) = absurd (roots_fit refusal full)
   design_or_fault design stands after none (fault.Refused refusal) (inr (inr full)) = absurd (includes_fit refusal full)
-  design_or_fault design stands after none fault.NotYet is =
-      absurd (no_form_or_design all words.defines words.top design (subst (λ ss. AreOfNoForm ss words.defines words.top) (sym (one_sources is.sources is.gathered)) is.no_form) stands)

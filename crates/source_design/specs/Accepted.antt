@@ -10,7 +10,6 @@ use Rattle.verilog_lexer.specs.Sources.{SourceText}
 use Rattle.verilog_lexer.specs.Tokens.{Lexeme}
 use Rattle.verilog_tree.specs.Tree as t
 use Rattle.verilog_parser.specs.Parses.{AreModules}
-use Rattle.source_design.specs.Form.{HasNoMemory}
 
 -- the sources have tokens, and these spell the modules within the depth
 pub record AreAccepted (sources : List SourceText) (defines : List DefineText) (modules : List t.Module) : Type 0 where
@@ -18,12 +17,11 @@ pub record AreAccepted (sources : List SourceText) (defines : List DefineText) (
   pub lexed : tokens_of sources defines ≡ Ok tokens
   pub spelled : AreModules tokens modules
 
--- the sources are accepted, and their modules with this top are this flat design, which has no memory
+-- the sources are accepted, and their modules with this top are this flat design
 pub record StandFor (sources : List SourceText) (defines : List DefineText) (top : List ℕ) (design : Design) : Type 0 where
   pub modules : List t.Module
   pub accepted : AreAccepted sources defines modules
   pub flat : answer modules top ≡ Ok (design_view design)
-  pub memories : HasNoMemory (design_view design)
 
 -- the sources are accepted, and this is the first fault of their modules with this top
 pub record AreFaulty (sources : List SourceText) (defines : List DefineText) (top : List ℕ) (fault : Fault) : Type 0 where

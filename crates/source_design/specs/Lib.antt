@@ -1,4 +1,3 @@
-pub mod Form
 pub mod Words
 pub mod Accepted
 pub mod Refusals

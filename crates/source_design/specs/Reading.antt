@@ -8,7 +8,7 @@ use Rattle.whole_files.specs.declared.call.Call.{Call}
 use Rattle.source_files.specs.Files.{AreRoots, AreSources, Grow, IsFile, Lacks, path_of}
 use Rattle.source_files.specs.Joining.{IsRefusedCall}
 use Rattle.source_design.specs.Accepted.{StandFor}
-use Rattle.source_design.specs.Refusals.{AreOfNoForm, AreRefused}
+use Rattle.source_design.specs.Refusals.{AreRefused}
 use Rattle.source_design.specs.Words.{SourceValues}
 use Rattle.source_design.specs.declared.fault.SourceFault.{SourceFault}
 use Rattle.source_design.specs.declared.fault.SourceFault.TheVariants as fault
@@ -86,19 +86,12 @@ pub record LacksAt (words : SourceValues) (before : Outside) (path : List ℕ) :
   pub lacks : Lacks sources words.defines name
   pub path_is : path ≡ path_of words.folder name
 
--- the sources are accepted, and their design has a memory
-pub record HasNoForm (words : SourceValues) (before : Outside) : Type 0 where
-  pub sources : List SourceText
-  pub gathered : HasSources words before sources
-  pub no_form : AreOfNoForm sources words.defines words.top
-
 -- why the files of the words give no design
 abbrev pub IsSourceFault : SourceValues → Outside → Outside → SourceFault → Type 0
 IsSourceFault words before after fault.NoMemory = Unit {0}
 IsSourceFault words before after (fault.File call file) = HasRefusedRoot words before after call file.now
 IsSourceFault words before after (fault.Included call path) = LacksAt words before path × IsRefusedCall before after path call
 IsSourceFault words before after (fault.Refused refusal) = HasRefused words before refusal ⊎ (HasFullRoot words before refusal ⊎ HasFullInclude words before refusal)
-IsSourceFault words before after fault.NotYet = HasNoForm words before
 
 -- why an included file does not join the sources
 abbrev pub IsIncludeFault : Outside → Outside → List ℕ → List ℕ → List SourceText → SourceFault → Type 0

@@ -15,7 +15,6 @@ use Rattle.verilog_parser.specs.Parses.{StandsIn}
 use Rattle.verilog_parser.specs.declared.fault.ParseFault.TheVariants as parse_fault
 use Rattle.verilog_tree.specs.Tree as t
 use Rattle.source_design.specs.Accepted.{AreAccepted, AreFaulty}
-use Rattle.source_design.specs.Form.{HasNoMemory}
 use Rattle.source_design.specs.declared.fault.SourceKind.{SourceKind}
 use Rattle.source_design.specs.declared.fault.SourceKind.TheVariants as kind
 use Rattle.source_design.specs.declared.fault.SourceRefusal.{SourceRefusal}
@@ -40,11 +39,3 @@ pub record AreRefused (sources : List SourceText) (defines : List DefineText) (t
   pub found : IsFoundAt sources defines top refusal.kind place refusal.detail
   pub no_file : refusal.kind ≢ kind.Lex IncludeMissing
   pub spot : refusal.spot ≡ spot_of sources place
-
--- the sources are accepted, and their modules are a flat design that has a memory
-pub record AreOfNoForm (sources : List SourceText) (defines : List DefineText) (top : List ℕ) : Type 0 where
-  pub modules : List t.Module
-  pub accepted : AreAccepted sources defines modules
-  pub design : Design
-  pub flat : answer modules top ≡ Ok design
-  pub more : HasNoMemory design → ⊥

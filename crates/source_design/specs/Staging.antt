@@ -15,7 +15,7 @@ use Rattle.source_files.specs.Files.{Lacks}
 use Rattle.source_files.specs.declared.fault.JoinFault.{JoinFault}
 use Rattle.source_files.specs.declared.fault.JoinFault.TheVariants as join_fault
 use Rattle.source_design.specs.Accepted.{StandFor}
-use Rattle.source_design.specs.Refusals.{AreOfNoForm, AreRefused, spot_of}
+use Rattle.source_design.specs.Refusals.{AreRefused, spot_of}
 use Rattle.source_design.specs.Words.{SourceValues}
 use Rattle.source_design.specs.declared.fault.SourceFault.{SourceFault}
 use Rattle.source_design.specs.declared.fault.SourceFault.TheVariants as fault
@@ -33,7 +33,6 @@ IsFound words sources (found.Lacking name) = Lacks sources words.defines name
 abbrev pub IsStageFault : SourceValues → List SourceText → SourceFault → Type 0
 IsStageFault words sources fault.NoMemory = Unit {0}
 IsStageFault words sources (fault.Refused refusal) = AreRefused sources words.defines words.top refusal
-IsStageFault words sources fault.NotYet = AreOfNoForm sources words.defines words.top
 IsStageFault words sources other = ⊥
 
 -- the refusal of a fault at a place, if it is not want of memory

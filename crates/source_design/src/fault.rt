@@ -50,8 +50,6 @@ pub enum SourceFault<'a> {
     Included { call: Call, path: Name },
     /// The sources are refused.
     Refused(SourceRefusal),
-    /// The sources are accepted, and their design has a memory.
-    NotYet,
 }
 
 impl From<NoMemory> for SourceFault<'_> {

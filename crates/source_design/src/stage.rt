@@ -4,7 +4,6 @@ ghost use Rattle.source_design.specs.Staging.{IsElabFault, IsFound, IsLackingFro
 ghost use Rattle.source_design.specs.Words.{source_values};
 
 use crate::fault::{SourceFault, SourceKind, SourceRefusal, SourceSpot};
-use crate::form::has_no_memory;
 use crate::words::SourceWords;
 use cov_host::{Name, NoMemory, Place};
 use design_model::Design;
@@ -45,9 +44,6 @@ pub(crate) fn find<'a>(
         Ok(design) => design,
         Err(fault) => return Err(elab_fault(alloc, sources, fault)),
     };
-    if !has_no_memory(&design) {
-        return Err(SourceFault::NotYet);
-    }
     Ok(Found::Design(design))
 }
 

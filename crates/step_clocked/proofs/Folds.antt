@@ -12,7 +12,7 @@ use Rattle.clocked_marks.specs.chosen_runs.chosen_early.early_sets.WakeState.{Wa
 use Rattle.clocked_marks.specs.chosen_runs.chosen_early.early_sets.Has.{is_in}
 use Rattle.clocked_marks.specs.chosen_runs.chosen_early.early_sets.declared.habit.Habit.{Habit}
 use Rattle.clocked_marks.specs.chosen_runs.clocked_block.clocked_runs.run_views.body_store.declared.store.Store.{Store}
-use Rattle.clocked_marks.specs.run_marks.cover_marks.declared.marks.Marks.{Marks}
+use Rattle.clocked_marks.specs.run_marks.declared.notes.MarkNotes.{MarkNotes}
 use Rattle.clocked_marks.specs.chosen_runs.clocked_block.OneRun.{IsRunBy}
 use Rattle.clocked_marks.specs.run_marks.cover_points.Visits.{AreApart, AreOnce}
 use Rattle.clocked_marks.specs.run_marks.cover_points.declared.listing.Points.{Points}
@@ -47,20 +47,20 @@ module _ (st : Closing) (ps : Points) (w : WakeState) (h : Habit) (codes : List 
 -- ---- the clean ones
 
 -- the runs so far have led here, and those of the rest of the list lead to the end of the clean ones; those of `later` can run too
-pub record HasCleaned (st : Closing) (ps : Points) (rest later all : List ℕ) (start : Working) (x : Store) (m : Marks) : Type 0 where
+pub record HasCleaned (st : Closing) (ps : Points) (rest later all : List ℕ) (start : Working) (x : Store) (m : MarkNotes) : Type 0 where
   pub working : Working
   pub at : AtClocked st ps working (rest ++ later) x m
   pub leads : run_all_clean st rest working ≡ run_all_clean st all start
 
 module _ (st : Closing) (ps : Points) (later all : List ℕ) (start : Working) where
   -- one run more
-  pub cleaned_more : (p : ℕ) (rest : List ℕ) (x y : Store) (m n : Marks) → ((w : Working) → AtClocked st ps w (p ∷ (rest ++ later)) x m → AtClocked st ps (run_clean st (st.sets.trigger p) p w) (rest ++ later) y n)
+  pub cleaned_more : (p : ℕ) (rest : List ℕ) (x y : Store) (m n : MarkNotes) → ((w : Working) → AtClocked st ps w (p ∷ (rest ++ later)) x m → AtClocked st ps (run_clean st (st.sets.trigger p) p w) (rest ++ later) y n)
       → HasCleaned st ps (p ∷ rest) later all start x m → HasCleaned st ps rest later all start y n
   cleaned_more p rest x y m n step h = record { working = run_clean st (st.sets.trigger p) p h.working; at = step h.working h.at; leads = h.leads }
 
   -- by what the run of a clean process promises
   pub cleaned_run : (w v : WakeState) (t : ℕ) (h : Habit) (codes : List (Option ℕ)) (values : Values) (time : ℕ) → IsClockedStep st ps w h codes values time → IsSameButEarly w v
-      → (p : ℕ) (rest : List ℕ) (qs : Points) → qs ≡ ps → trigger_of w p ≡ Some t → (x y : Store) (m n : Marks)
+      → (p : ℕ) (rest : List ℕ) (qs : Points) → qs ≡ ps → trigger_of w p ≡ Some t → (x y : Store) (m n : MarkNotes)
       → ((u : Working) → AreApart qs → AreOnce qs → IsRunBy st time → IsDumpedStep st codes values → IsEarlyIn st v h p t → AtClocked st qs u (p ∷ (rest ++ later)) x m → AtClocked st qs (run_clean st (Some t) p u) (rest ++ later) y n)
       → HasCleaned st ps (p ∷ rest) later all start x m → HasCleaned st ps rest later all start y n
   cleaned_run w v t h codes values time is same p rest qs points has x y m n run =
@@ -70,7 +70,7 @@ module _ (st : Closing) (ps : Points) (later all : List ℕ) (start : Working) w
       (run u (subst AreApart (sym points) is.apart) (subst AreOnce (sym points) is.once) is.by is.dumped (step_early st ps w h codes values time is v same p t has) (subst (λ os. AtClocked st os u (p ∷ (rest ++ later)) x m) (sym points) at))))
 
   -- one is put off
-  pub cleaned_off : (p : ℕ) (rest : List ℕ) (x : Store) (m : Marks) → st.sets.trigger p ≡ None → HasCleaned st ps (p ∷ rest) later all start x m → HasCleaned st ps rest (later ++ p ∷ []) all start x m
+  pub cleaned_off : (p : ℕ) (rest : List ℕ) (x : Store) (m : MarkNotes) → st.sets.trigger p ≡ None → HasCleaned st ps (p ∷ rest) later all start x m → HasCleaned st ps rest (later ++ p ∷ []) all start x m
   cleaned_off p rest x m none h = record {
     working = h.working;
     at = at_put_off st ps h.working x m p rest later h.at;
@@ -78,21 +78,21 @@ module _ (st : Closing) (ps : Points) (later all : List ℕ) (start : Working) w
   }
 
   -- none is left
-  pub cleaned_end : (rest : List ℕ) (x : Store) (m : Marks) → rest ≡ [] → HasCleaned st ps rest later all start x m → AtClocked st ps (run_all_clean st all start) later x m
+  pub cleaned_end : (rest : List ℕ) (x : Store) (m : MarkNotes) → rest ≡ [] → HasCleaned st ps rest later all start x m → AtClocked st ps (run_all_clean st all start) later x m
   cleaned_end rest x m none h =
       subst (λ w. AtClocked st ps w later x m) (ap (λ qs. run_all_clean st qs h.working) (sym none) ∙ h.leads) (subst (λ qs. AtClocked st ps h.working (qs ++ later) x m) none h.at)
 
 -- ---- the others
 
 -- the runs so far have led here, and those of the rest of the list lead to the end
-pub record HasWeakened (st : Closing) (ps : Points) (rest all : List ℕ) (start : Working) (x : Store) (m : Marks) : Type 0 where
+pub record HasWeakened (st : Closing) (ps : Points) (rest all : List ℕ) (start : Working) (x : Store) (m : MarkNotes) : Type 0 where
   pub working : Working
   pub at : AtClocked st ps working rest x m
   pub leads : run_all_weak st rest working ≡ run_all_weak st all start
 
 module _ (st : Closing) (ps : Points) (all : List ℕ) (start : Working) where
   -- one run more
-  pub weakened_more : (p s : ℕ) (rest : List ℕ) (x y : Store) (m n : Marks) → st.sets.trigger p ≡ None → st.sets.wakes p ≡ Some s
+  pub weakened_more : (p s : ℕ) (rest : List ℕ) (x y : Store) (m n : MarkNotes) → st.sets.trigger p ≡ None → st.sets.wakes p ≡ Some s
       → ((w : Working) → AtClocked st ps w (p ∷ rest) x m → AtClocked st ps (run_weak st None (Some s) p w) rest y n)
       → HasWeakened st ps (p ∷ rest) all start x m → HasWeakened st ps rest all start y n
   weakened_more p s rest x y m n none some step h = record {
@@ -102,7 +102,7 @@ module _ (st : Closing) (ps : Points) (all : List ℕ) (start : Working) where
   }
 
   -- by what the run of such a process promises
-  pub weakened_run : (time p s : ℕ) (rest : List ℕ) (qs : Points) → qs ≡ ps → AreApart ps → AreOnce ps → IsRunBy st time → st.sets.trigger p ≡ None → st.sets.wakes p ≡ Some s → (x y : Store) (m n : Marks)
+  pub weakened_run : (time p s : ℕ) (rest : List ℕ) (qs : Points) → qs ≡ ps → AreApart ps → AreOnce ps → IsRunBy st time → st.sets.trigger p ≡ None → st.sets.wakes p ≡ Some s → (x y : Store) (m n : MarkNotes)
       → ((u : Working) → AreApart qs → AreOnce qs → IsRunBy st time → AtClocked st qs u (p ∷ rest) x m → AtClocked st qs (run_weak st None (Some s) p u) rest y n)
       → HasWeakened st ps (p ∷ rest) all start x m → HasWeakened st ps rest all start y n
   weakened_run time p s rest qs points apart once by none some x y m n run =
@@ -111,7 +111,7 @@ module _ (st : Closing) (ps : Points) (all : List ℕ) (start : Working) where
       (run u (subst AreApart (sym points) apart) (subst AreOnce (sym points) once) by (subst (λ os. AtClocked st os u (p ∷ rest) x m) (sym points) at)))
 
   -- one that cannot wake
-  pub weakened_past : (p : ℕ) (rest : List ℕ) (x : Store) (m : Marks) → st.sets.trigger p ≡ None → st.sets.wakes p ≡ None → HasWeakened st ps (p ∷ rest) all start x m → HasWeakened st ps rest all start x m
+  pub weakened_past : (p : ℕ) (rest : List ℕ) (x : Store) (m : MarkNotes) → st.sets.trigger p ≡ None → st.sets.wakes p ≡ None → HasWeakened st ps (p ∷ rest) all start x m → HasWeakened st ps rest all start x m
   weakened_past p rest x m none never h = record {
     working = h.working;
     at = at_left_out st ps h.working x m p rest h.at;
@@ -119,7 +119,7 @@ module _ (st : Closing) (ps : Points) (all : List ℕ) (start : Working) where
   }
 
   -- none is left
-  pub weakened_end : (rest : List ℕ) (x : Store) (m : Marks) → rest ≡ [] → HasWeakened st ps rest all start x m → AtClocked st ps (run_all_weak st all start) [] x m
+  pub weakened_end : (rest : List ℕ) (x : Store) (m : MarkNotes) → rest ≡ [] → HasWeakened st ps rest all start x m → AtClocked st ps (run_all_weak st all start) [] x m
   weakened_end rest x m none h =
       subst (λ w. AtClocked st ps w [] x m) (ap (λ qs. run_all_weak st qs h.working) (sym none) ∙ h.leads) (subst (λ qs. AtClocked st ps h.working qs x m) none h.at)
 

@@ -9,7 +9,7 @@ use Rattle.clocked_marks.specs.chosen_runs.clocked_block.clocked_runs.run_views.
 use Rattle.clocked_marks.specs.chosen_runs.clocked_block.clocked_runs.run_views.body_replay.Store.{KnownWrite}
 use Rattle.clocked_marks.specs.chosen_runs.clocked_block.clocked_runs.run_views.body_store.declared.store.Store.{Store}
 use Rattle.clocked_marks.specs.chosen_runs.clocked_block.clocked_runs.store_knowledge.open_tests.Weights.{queues}
-use Rattle.clocked_marks.specs.run_marks.cover_marks.declared.marks.Marks.{Marks}
+use Rattle.clocked_marks.specs.run_marks.declared.notes.MarkNotes.{MarkNotes}
 use Rattle.clocked_marks.specs.run_marks.cover_points.declared.listing.Points.{Points}
 use Rattle.replay_sets.specs.replay_model.Step.{Closing, Working}
 
@@ -43,9 +43,9 @@ module _ (d : Design) where
   pub all_left_out : (p : ℕ) (rest : List ℕ) (x : Store) → CanRunAll d (p ∷ rest) x → CanRunAll d rest x
   all_left_out p rest x h = record { kept = h.kept; queue = h.queue; runs = left_out _ h.queue x p rest h.runs }
 
-module _ (st : Closing) (ps : Points) (w : Working) (x : Store) (m : Marks) where
+module _ (st : Closing) (ps : Points) (w : Working) (x : Store) (m : MarkNotes) where
   pub at_put_off : (p : ℕ) (rest later : List ℕ) → AtClocked st ps w (p ∷ (rest ++ later)) x m → AtClocked st ps w (rest ++ (later ++ p ∷ [])) x m
-  at_put_off p rest later at = record { runs = put_off st.design _ _ x p rest later at.runs; points = at.points; marks = at.marks }
+  at_put_off p rest later at = record { runs = put_off st.design _ _ x p rest later at.runs; points = at.points; marks = at.marks; unwritten = at.unwritten }
 
   pub at_left_out : (p : ℕ) (rest : List ℕ) → AtClocked st ps w (p ∷ rest) x m → AtClocked st ps w rest x m
-  at_left_out p rest at = record { runs = left_out st.design _ _ x p rest at.runs; points = at.points; marks = at.marks }
+  at_left_out p rest at = record { runs = left_out st.design _ _ x p rest at.runs; points = at.points; marks = at.marks; unwritten = at.unwritten }

@@ -67,12 +67,14 @@ pub(crate) fn run_clean_ones<L: Ledger>(
     ensures ready { (d : Design) × CanRunAll d later.new.items store.new }
     ensures pieces { pieces.new ≡ pieces.old }
     ensures points { notes.new.points.now ≡ notes.old.points.now }
+    ensures first { notes.new.written.first ≡ notes.old.written.first }
+    ensures ranges { notes.new.written.ranges ≡ notes.old.written.ranges }
     ensures marks { AreMarksOf notes.new.points.now notes.new.marks }
     ensures steps { steps.new ≡ steps.old + length ran.new.items }
     ensures chosen { (early : ℕ → List ℕ) × AreChosenOf (state_of sets.old) given.now.habit (map (λ q. q.0) list.old.pairs) early }
     ensures step { (st : Closing) (w : Working) → IsClockedStep st notes.old.points.now (state_of sets.old) given.now.habit given.now.codes.now given.now.values.now given.now.time
-        → AtClocked st notes.old.points.now w (map (λ q. q.0) list.old.pairs) store.old notes.old.marks
-        → AtClocked st notes.old.points.now (run_all_clean st (map (λ q. q.0) list.old.pairs) w) later.new.items store.new notes.new.marks }
+        → AtClocked st notes.old.points.now w (map (λ q. q.0) list.old.pairs) store.old notes.old
+        → AtClocked st notes.old.points.now (run_all_clean st (map (λ q. q.0) list.old.pairs) w) later.new.items store.new notes.new }
 {
     list.fitting();
     let mut shared = None;
@@ -129,12 +131,14 @@ fn run_clean<L: Ledger>(
     ensures ready { (d : Design) (ps : List ℕ) → CanRunAll d (process ∷ ps) store.old → CanRunAll d ps store.new }
     ensures pieces { pieces.new ≡ pieces.old }
     ensures points { notes.new.points.now ≡ notes.old.points.now }
+    ensures first { notes.new.written.first ≡ notes.old.written.first }
+    ensures ranges { notes.new.written.ranges ≡ notes.old.written.ranges }
     ensures marks { AreMarksOf notes.new.points.now notes.new.marks }
     ensures steps { steps.new ≡ steps.old + 1 }
     ensures step { (st : Closing) (w : Working) (ps : List ℕ) → AreApart notes.old.points.now → AreOnce notes.old.points.now
         → IsRunBy st given.now.time → IsDumpedStep st given.now.codes.now given.now.values.now → IsEarlyIn st (state_of sets.old) given.now.habit process trigger
-        → AtClocked st notes.old.points.now w (process ∷ ps) store.old notes.old.marks
-        → AtClocked st notes.old.points.now (run_clean_of st (Some trigger) process w) ps store.new notes.new.marks }
+        → AtClocked st notes.old.points.now w (process ∷ ps) store.old notes.old
+        → AtClocked st notes.old.points.now (run_clean_of st (Some trigger) process w) ps store.new notes.new }
 {
     mark_clean(
         sets,

@@ -18,6 +18,7 @@ ghost use Rattle.clocked_marks.specs.run_marks.cover_marks.Marks.{AreMarksOf};
 ghost use Rattle.clocked_marks.specs.run_marks.mark_laws.Marked.{AreVerdicts};
 ghost use Rattle.replay_sets.specs.SetsOf.{AreChosen};
 ghost use Rattle.replay_sets.specs.replay_model.Step.{Closing, Working, clocked_run, opened};
+ghost use Rattle.written_words.specs.Same.{SameUnwritten};
 ghost use Rattle.step_clocked.specs.Runs.{AreAssignedRows, AreClockedOf, AreFirstOf, HasWoken, IsClockedStep, clean_first, is_woken, runs_clean, runs_weak};
 
 use crate::given::Given;
@@ -71,6 +72,8 @@ pub fn run_clocked<L: Ledger>(
     ensures known { (d : Design) × (k : Kept) × Knows d k store.new }
     ensures pieces { pieces.new ≡ pieces.old }
     ensures points { notes.new.points.now ≡ notes.old.points.now }
+    ensures first { notes.new.written.first ≡ notes.old.written.first }
+    ensures ranges { notes.new.written.ranges ≡ notes.old.written.ranges }
     ensures marks { AreMarksOf notes.new.points.now notes.new.marks }
     ensures steps { steps.new ≡ steps.old + length ran.new.items }
     ensures chosen { HasWoken (state_of sets.old) (map (λ q. q.0) list.old.pairs) → (early : ℕ → List ℕ) × AreChosen (state_of sets.old) given.now.habit early }
@@ -80,6 +83,9 @@ pub fn run_clocked<L: Ledger>(
     ensures verdicts { (st : Closing) → IsClockedStep st notes.old.points.now (state_of sets.old) given.now.habit given.now.codes.now given.now.values.now given.now.time → AreClockedOf st (map (λ q. q.0) list.old.pairs)
         → Knows st.design st.start.kept store.old → AreVerdicts st.design notes.old.points.now st.start.notes notes.old.marks.verdicts
         → AreVerdicts st.design notes.old.points.now (clocked_run st).notes notes.new.marks.verdicts }
+    ensures unwritten { (st : Closing) → IsClockedStep st notes.old.points.now (state_of sets.old) given.now.habit given.now.codes.now given.now.values.now given.now.time → AreClockedOf st (map (λ q. q.0) list.old.pairs)
+        → Knows st.design st.start.kept store.old → AreVerdicts st.design notes.old.points.now st.start.notes notes.old.marks.verdicts
+        → SameUnwritten st.design st.start.kept (flush (clocked_run st).kept (clocked_run st).queue) notes.new.written }
 {
     queue_law();
     list.fitting();

@@ -62,12 +62,14 @@ pub(crate) fn run_in_turn<L: Ledger>(
     ensures ready { (d : Design) × CanRunAll d [] store.new }
     ensures pieces { pieces.new ≡ pieces.old }
     ensures points { notes.new.points.now ≡ notes.old.points.now }
+    ensures first { notes.new.written.first ≡ notes.old.written.first }
+    ensures ranges { notes.new.written.ranges ≡ notes.old.written.ranges }
     ensures marks { AreMarksOf notes.new.points.now notes.new.marks }
     ensures steps { steps.new ≡ steps.old + length ran.new.items }
     ensures chosen { (early : ℕ → List ℕ) × AreChosenOf (state_of sets.old) given.now.habit (map (λ q. q.0) list.old.pairs) early }
     ensures step { (st : Closing) → IsClockedStep st notes.old.points.now (state_of sets.old) given.now.habit given.now.codes.now given.now.values.now given.now.time → AreClockedOf st (map (λ q. q.0) list.old.pairs)
-        → AtClocked st notes.old.points.now (opened st) (map (λ q. q.0) list.old.pairs) store.old notes.old.marks
-        → AtClocked st notes.old.points.now (clocked_run st) [] store.new notes.new.marks }
+        → AtClocked st notes.old.points.now (opened st) (map (λ q. q.0) list.old.pairs) store.old notes.old
+        → AtClocked st notes.old.points.now (clocked_run st) [] store.new notes.new }
 {
     later.clear();
     ran.clear();

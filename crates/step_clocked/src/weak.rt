@@ -49,12 +49,14 @@ pub(crate) fn run_weak_ones<L: Ledger>(
     ensures ready { (d : Design) × CanRunAll d [] store.new }
     ensures pieces { pieces.new ≡ pieces.old }
     ensures points { notes.new.points.now ≡ notes.old.points.now }
+    ensures first { notes.new.written.first ≡ notes.old.written.first }
+    ensures ranges { notes.new.written.ranges ≡ notes.old.written.ranges }
     ensures marks { AreMarksOf notes.new.points.now notes.new.marks }
     ensures steps { steps.new + length ran.old.items ≡ steps.old + length ran.new.items }
     ensures step { (st : Closing) (w : Working) → AreApart notes.old.points.now → AreOnce notes.old.points.now → IsRunBy st given.now.time
         → ((p : ℕ) → st.sets.trigger p ≡ trigger_of (state_of sets.now) p) → ((p : ℕ) → st.sets.wakes p ≡ waker_of (state_of sets.now) p)
-        → AtClocked st notes.old.points.now w later.now store.old notes.old.marks
-        → AtClocked st notes.old.points.now (run_all_weak st later.now w) [] store.new notes.new.marks }
+        → AtClocked st notes.old.points.now w later.now store.old notes.old
+        → AtClocked st notes.old.points.now (run_all_weak st later.now w) [] store.new notes.new }
 {
     for process in later {
         let Some(waker) = sets.waker(*process) else {
@@ -87,11 +89,13 @@ fn run_weak<L: Ledger>(
     ensures ready { (d : Design) (ps : List ℕ) → CanRunAll d (process ∷ ps) store.old → CanRunAll d ps store.new }
     ensures pieces { pieces.new ≡ pieces.old }
     ensures points { notes.new.points.now ≡ notes.old.points.now }
+    ensures first { notes.new.written.first ≡ notes.old.written.first }
+    ensures ranges { notes.new.written.ranges ≡ notes.old.written.ranges }
     ensures marks { AreMarksOf notes.new.points.now notes.new.marks }
     ensures steps { steps.new ≡ steps.old + 1 }
     ensures step { (st : Closing) (w : Working) (ps : List ℕ) → AreApart notes.old.points.now → AreOnce notes.old.points.now → IsRunBy st given.now.time
-        → AtClocked st notes.old.points.now w (process ∷ ps) store.old notes.old.marks
-        → AtClocked st notes.old.points.now (run_weak_of st None (Some waker) process w) ps store.new notes.new.marks }
+        → AtClocked st notes.old.points.now w (process ∷ ps) store.old notes.old
+        → AtClocked st notes.old.points.now (run_weak_of st None (Some waker) process w) ps store.new notes.new }
 {
     mark_weak(
         process,

@@ -17,6 +17,7 @@ use Rattle.cover_marks.specs.cover_points.Listed.{IsPointList}
 use Rattle.cover_marks.specs.cover_points.declared.listing.Points.{Points}
 use Rattle.design_model.specs.Design.{Design, cell, no_signal, signal_at, signal_cells}
 use Rattle.design_model.specs.Lawful.{IsLawfulDesign, is_signal, span}
+use Rattle.design_model.specs.Points.{StateNames}
 use Rattle.design_model.specs.View.{design_view}
 use Rattle.design_model.specs.declared.design.Signal.{Signal}
 use Rattle.point_marks.specs.declared.verdict.Verdict.{Verdict}
@@ -74,8 +75,8 @@ module _ (d : Design) (s : ℕ) (x : Signal) (lawful : IsLawfulDesign d) (found 
   pub indexed : x.high < 2 ^ 32 → IsIndexed x
   indexed bound i l = (λ e. up_index x i width_is bound l (rises x e), λ e. down_index x i width_is l (falls x e))
 
-  pub marks_of : (ps : Points) → IsPointList d [] ps → IsMarkable ps x s
-  marks_of ps list = subst (λ y. IsMarkable ps y s) (sym found_at) (markable d [] ps lawful list s inside)
+  pub marks_of : (ms : List StateNames) (ps : Points) → IsPointList d ms ps → IsMarkable ps x s
+  marks_of ms ps list = subst (λ y. IsMarkable ps y s) (sym found_at) (markable d ms ps lawful list s inside)
 
   pub old_width : (v : StepVectors) (q : Partly) → FitsSignals d v → q ≡ vector_at v.before s → length q.bits ≡ x.width
   old_width v q fits e = ap (λ (p : Partly). length p.bits) e ∙ fits.before.width s inside ∙ ap (λ (y : Signal). y.width) (sym found_at)
@@ -99,7 +100,7 @@ module _ (d : Design) (st : Closing) (ps : Points) (s time : ℕ) (x : Signal) (
   within = subst (λ (e : Design). s < length e.signals) design_is (inside d s x lawful found)
 
   pub lists : ListsBoth ps x s
-  lists = (marks_of d s x lawful found ps (subst (λ e. IsPointList e [] ps) (sym design_is) over.listed)).listed
+  lists = (marks_of d s x lawful found over.machines ps (subst (λ e. IsPointList e over.machines ps) (sym design_is) over.listed)).listed
 
   -- the bits before and after are those of the replay
   pub turn_of : (old new : Partly) (after : List Verdict) → old ≡ vector_at v.before s → ((e : Design) (k : Kept) → Knows e k store → new.bits ≡ map k (signal_cells e s))

@@ -55,6 +55,7 @@ one_over st ps moves time i thing x v first seen start m l e over after = record
   values = over.values;
   moves = λ s h. subst (λ y. st.sets.moves y ≡ true) (same s (thing == s) refl h) (over.moves thing (item_in moves i thing l e));
   time = over.time;
+  machines = over.machines;
   listed = over.listed;
   marks = after.marks;
   seen = after.seen;

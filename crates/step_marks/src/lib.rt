@@ -1,11 +1,8 @@
-//! The marks of what has changed over a step, once its processes have run, in a design without state machines.
+//! The marks of the toggles of a step, once its processes have run.
 //!
-//! [`mark_moved`] marks the toggles of the signals that may move; after it the parts of the code are those of the replay after
-//! the step ([`closed_law`]). It takes no memory.
+//! [`mark_moved`] marks the toggles of the signals that may move. It takes no memory.
 #![tactic(auto)]
 
-mod laws;
 mod marks;
 
-pub use laws::closed_law;
 pub use marks::mark_moved;

@@ -3,3 +3,4 @@ pub mod Marking
 pub mod Written
 pub mod Watched
 pub mod Changed
+pub mod StartWords

@@ -21,7 +21,9 @@ use Rattle.settling.specs.step_values.Vectors.{StepVectors}
 use Rattle.settling.specs.step_parts.AtStep.{AtStep}
 use Rattle.settling.specs.wake_bits.declared.wakes.Wake.{Wake}
 use Rattle.settling.specs.Runs.{IsStepOf}
-use Rattle.step_runs.specs.Runs.{IsRunOf, is_before, is_ordered}
+use Rattle.settling.specs.Wakes.{HasWordChanges}
+use Rattle.step_words.specs.Words.{StepState}
+use Rattle.step_runs.specs.Runs.{AtRun, IsRunOf, is_before, is_ordered}
 
 -- the processes of a list run, each ordered where it passes a test
 abbrev pub run_listed : Closing → (ℕ → Bool) → List ℕ → Working → Working
@@ -76,17 +78,17 @@ listed_run st places count ordered listed w ranked many is =
     ∙ ap (run_all_settling st false st.tables.last) (sym (filtered st true st.tables.order w))
 
 -- the runs so far have led here, and those of the rest of the list lead to the end of the step
-pub record HasLed (st : Closing) (ps : Points) (test : ℕ → Bool) (rest : List ℕ) (x : Store) (v : StepVectors) (sets : WakeState) (flags : List Bool) (m : Marks) : Type 0 where
+pub record HasLed (st : Closing) (ps : Points) (test : ℕ → Bool) (rest : List ℕ) (x : Store) (v : StepVectors) (words : StepState) (sets : WakeState) (flags : List Bool) (m : Marks) : Type 0 where
   pub working : Working
-  pub at : AtStep st ps working x v sets flags m
+  pub at : AtRun st ps working x v words sets flags m
   pub leads : run_listed st test rest working ≡ all_run st
 
 module _ (st : Closing) (ps : Points) (places : List (Option ℕ)) (ordered : ℕ) (listed : List ℕ) (wakes : List (List Wake)) (codes : List (Option ℕ)) (changed : List ℕ) (now : ℕ) (run : IsRunOf st ps places ordered listed wakes codes changed now) where
   -- before the first run
-  pub led_start : (x : Store) (v : StepVectors) (sets : WakeState) (flags : List Bool) (m : Marks) → AtStep st ps (settle_start st (clocked_run st)) x v sets flags m → HasLed st ps (is_ordered places ordered) listed x v sets flags m
-  led_start x v sets flags m at = record {
+  pub led_start : (x : Store) (v : StepVectors) (words : StepState) (sets : WakeState) (flags : List Bool) (m : Marks) → HasWordChanges st (settle_start st (clocked_run st)).kept words → AtStep st ps (settle_start st (clocked_run st)) x v sets flags m → HasLed st ps (is_ordered places ordered) listed x v words sets flags m
+  led_start x v words sets flags m changes at = record {
     working = settle_start st (clocked_run st);
-    at = at;
+    at = record { step = at; words = changes };
     leads = listed_run st places (length st.design.processes) ordered listed (settle_start st (clocked_run st)) run.ranked run.ordered run.listed;
   }
 
@@ -102,18 +104,18 @@ module _ (st : Closing) (ps : Points) (places : List (Option ℕ)) (ordered : �
 
   -- one run more
   pub led_more : (ran : List ℕ) (p : ℕ) (rest : List ℕ) → ran ++ p ∷ rest ≡ listed → (qs : Points) → qs ≡ ps → (kept : Bool) → kept ≡ is_ordered places ordered p
-      → (x y : Store) (v u : StepVectors) (sets : WakeState) (before after : List Bool) (m n : Marks)
-      → ((w : Working) → AreApart qs → AreOnce qs → IsStepOf st p wakes codes changed now → is_touched st p ≡ true → AtStep st qs w x v sets before m → AtStep st qs (run_settling st kept p w) y u sets after n)
-      → HasLed st ps (is_ordered places ordered) (p ∷ rest) x v sets before m → HasLed st ps (is_ordered places ordered) rest y u sets after n
-  led_more ran p rest is qs same kept kept_is x y v u sets before after m n step h = record {
+      → (x y : Store) (v u : StepVectors) (words : StepState) (sets : WakeState) (before after : List Bool) (m n : Marks)
+      → ((w : Working) → AreApart qs → AreOnce qs → IsStepOf st p wakes codes changed now → is_touched st p ≡ true → AtRun st qs w x v words sets before m → AtRun st qs (run_settling st kept p w) y u words sets after n)
+      → HasLed st ps (is_ordered places ordered) (p ∷ rest) x v words sets before m → HasLed st ps (is_ordered places ordered) rest y u words sets after n
+  led_more ran p rest is qs same kept kept_is x y v u words sets before after m n step h = record {
     working = run_settling st (is_ordered places ordered p) p h.working;
     at =
-        subst (λ b. AtStep st ps (run_settling st b p h.working) y u sets after n) kept_is
-        (subst (λ os. AtStep st os (run_settling st kept p h.working) y u sets after n) same
-        (step h.working (subst AreApart (sym same) run.apart) (subst AreOnce (sym same) run.once) (next_step ran rest p is) (next_touched ran rest p is) (subst (λ os. AtStep st os h.working x v sets before m) (sym same) h.at)));
+        subst (λ b. AtRun st ps (run_settling st b p h.working) y u words sets after n) kept_is
+        (subst (λ os. AtRun st os (run_settling st kept p h.working) y u words sets after n) same
+        (step h.working (subst AreApart (sym same) run.apart) (subst AreOnce (sym same) run.once) (next_step ran rest p is) (next_touched ran rest p is) (subst (λ os. AtRun st os h.working x v words sets before m) (sym same) h.at)));
     leads = h.leads;
   }
 
 -- after the last run
-pub led_end : (st : Closing) (ps : Points) (test : ℕ → Bool) (rest : List ℕ) (x : Store) (v : StepVectors) (sets : WakeState) (flags : List Bool) (m : Marks) → rest ≡ [] → HasLed st ps test rest x v sets flags m → AtStep st ps (all_run st) x v sets flags m
-led_end st ps test rest x v sets flags m none h = subst (λ w. AtStep st ps w x v sets flags m) (ap (λ qs. run_listed st test qs h.working) (sym none) ∙ h.leads) h.at
+pub led_end : (st : Closing) (ps : Points) (test : ℕ → Bool) (rest : List ℕ) (x : Store) (v : StepVectors) (words : StepState) (sets : WakeState) (flags : List Bool) (m : Marks) → rest ≡ [] → HasLed st ps test rest x v words sets flags m → AtStep st ps (all_run st) x v sets flags m
+led_end st ps test rest x v words sets flags m none h = subst (λ w. AtStep st ps w x v sets flags m) (ap (λ qs. run_listed st test qs h.working) (sym none) ∙ h.leads) h.at.step

@@ -18,28 +18,26 @@ use Rattle.step_runs.specs.Laws.{RowsLaw}
 abbrev no_wake : Wake
 no_wake = record { thing = 0; mask = 0; mentioned = false }
 
-module _ (d : Design) (bound : ℕ → Bool) (tables : Tables) (watched : List (List ℕ)) (wakes : List (List Wake)) (lawful : IsLawfulDesign d) (plain : d.memories ≡ []) (tabled : AreTables d bound tables)
+module _ (d : Design) (bound : ℕ → Bool) (tables : Tables) (watched : List (List ℕ)) (wakes : List (List Wake)) (lawful : IsLawfulDesign d) (tabled : AreTables d bound tables)
     (are : (p : ℕ) → tables.watched p ≡ row_at watched p) (rows : AreWakeRows d watched wakes) where
-  -- without memories a process watches signals
-  below : (p x : ℕ) → In x (row_at watched p) → x < length d.signals
+  -- a process watches signals and memories
+  below : (p x : ℕ) → In x (row_at watched p) → x < length d.signals + length d.memories
   below p x i =
       let level = (tabled.watched p x).0 (subst (In x) (sym (are p)) i) in
-      let all : x < length d.signals + length d.memories = level_below d x (process_at d p) (lawful.bodies p) (lawful.lists p) level in
-      let none : length d.memories ≡ 0 = ap length plain in
-      omega (arith, all, none)
+      level_below d x (process_at d p) (lawful.bodies p) (lawful.lists p) level
 
-  pub signals_are : (p : ℕ) → All (λ (w : Wake). w.thing < length d.signals) (row_at wakes p)
-  signals_are p = All-from_get_or (λ (w : Wake). w.thing < length d.signals) (row_at wakes p) no_wake (λ k l.
+  pub things_are : (p : ℕ) → All (λ (w : Wake). w.thing < length d.signals + length d.memories) (row_at wakes p)
+  things_are p = All-from_get_or (λ (w : Wake). w.thing < length d.signals + length d.memories) (row_at wakes p) no_wake (λ k l.
       let row = row_at wakes p in
       let things = (rows.each p).things in
       let less : k < length (row_at watched p) = omega (arith, l, length-map row (λ (w : Wake). w.thing), ap length things) in
       below p (get_or row k no_wake).thing (subst (λ x. In x (row_at watched p)) (ap (λ ys. get_or ys k 0) (sym things) ∙ get_or-map (λ (w : Wake). w.thing) row k no_wake) (contains_in (get_or (row_at watched p) k 0) (row_at watched p) (Contains-get_or (row_at watched p) k 0 less))))
 
 pub has_rows : RowsLaw
-has_rows d bound tables watched targets written wakes lawful plain tabled are count blocking names rows = record {
+has_rows d bound tables watched targets written wakes lawful tabled are count blocking names rows = record {
   targets = blocking;
   written_count = names.count;
   written = λ p x settles. names.each p x;
   wakes_count = rows.count ∙ count;
-  signals = signals_are d bound tables watched wakes lawful plain tabled are rows;
+  things = things_are d bound tables watched wakes lawful tabled are rows;
 }

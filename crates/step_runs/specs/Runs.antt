@@ -3,10 +3,17 @@ use Rattle.std.specs.Prelude.{◌≡◌, ◌++◌, ℕ, Bool, false, filter, Lis
 use Rattle.run_marks.specs.cover_points.Visits.{AreApart, AreOnce}
 use Rattle.run_marks.specs.cover_points.declared.listing.Points.{Points}
 use Rattle.design_model.specs.Design.{In}
-use Rattle.settling.specs.replay_model.Step.{Closing, is_touched}
+use Rattle.settling.specs.replay_model.Step.{Closing, Working, is_touched}
 use Rattle.run_order.specs.Ranked.{AreRanksOf}
 use Rattle.settling.specs.wake_bits.declared.wakes.Wake.{Wake}
 use Rattle.settling.specs.Runs.{IsStepOf}
+use Rattle.settling.specs.Wakes.{HasWordChanges}
+use Rattle.settling.specs.body_store.declared.store.Store.{Store}
+use Rattle.settling.specs.step_parts.AtStep.{AtStep}
+use Rattle.settling.specs.step_values.Vectors.{StepVectors}
+use Rattle.early_sets.specs.WakeState.{WakeState}
+use Rattle.run_marks.specs.cover_marks.declared.marks.Marks.{Marks}
+use Rattle.step_words.specs.Words.{StepState}
 
 -- a place is below a number
 abbrev pub is_before : ℕ → Option ℕ → Bool
@@ -26,3 +33,8 @@ pub record IsRunOf (st : Closing) (ps : Points) (places : List (Option ℕ)) (co
   pub ordered : count ≡ length st.tables.order
   pub listed : running ≡ filter (is_touched st) (st.tables.order ++ st.tables.last)
   pub step : (p : ℕ) → In p running → IsStepOf st p wake_rows codes changed now
+
+-- the parts of the code are those of this state of the step, and so are the changes of words that were found
+pub record AtRun (st : Closing) (ps : Points) (w : Working) (x : Store) (v : StepVectors) (found : StepState) (sets : WakeState) (flags : List Bool) (m : Marks) : Type 0 where
+  pub step : AtStep st ps w x v sets flags m
+  pub words : HasWordChanges st w.kept found

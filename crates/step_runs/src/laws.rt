@@ -1,9 +1,11 @@
 //! That rows and changes are those that the runs ask, and examples; there is no code.
 
 ghost use Rattle.step_runs.specs.Example.{IsOrderExample, IsWrittenExample};
-ghost use Rattle.step_runs.specs.Laws.{RowsLaw, StepsLaw};
+ghost use Rattle.step_runs.specs.Laws.{FirstWordsLaw, KeptWordsLaw, RowsLaw, StepsLaw, WordsLaw};
 
-/// What is made of a lawful design without memories are the rows that its processes run with.
+use process_targets::settled_law;
+
+/// What is made of a lawful design are the rows that its processes run with.
 pub fn rows_law()
     ensures { RowsLaw }
 {}
@@ -12,6 +14,16 @@ pub fn rows_law()
 pub fn steps_law()
     ensures { StepsLaw }
 {}
+
+/// How words have changed once the Clocked have run is how they have as the Assigns and Combs start, and these leave the words: they
+/// make none anew, and the dump has none. So nothing is known of a word after the first step.
+pub fn words_law()
+    ensures start { WordsLaw }
+    ensures kept { KeptWordsLaw }
+    ensures first { FirstWordsLaw }
+{
+    settled_law();
+}
 
 /// Which processes are ordered, by their places.
 pub fn order_example()

@@ -11,7 +11,7 @@ mod laws;
 mod rows;
 mod runs;
 
-pub use laws::{order_example, rows_law, steps_law, written_example};
+pub use laws::{order_example, rows_law, steps_law, words_law, written_example};
 pub use rows::written_rows;
 pub use run_marks::MarkNotes;
 pub use runs::run_all;

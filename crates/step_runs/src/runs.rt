@@ -15,7 +15,9 @@ ghost use Rattle.settling.specs.store_knowledge.Knows.{Knows};
 ghost use Rattle.settling.specs.step_values.Vectors.{FitsSignals};
 ghost use Rattle.settling.specs.Runs.{HasRows, IsStepOf};
 ghost use Rattle.settling.specs.step_parts.AtStep.{AtStep};
-ghost use Rattle.step_runs.specs.Runs.{IsRunOf, is_ordered as is_ordered_by};
+ghost use Rattle.settling.specs.Wakes.{HasWordChanges};
+ghost use Rattle.step_words.specs.Words.{IsOfMemories};
+ghost use Rattle.step_runs.specs.Runs.{AtRun, IsRunOf, is_ordered as is_ordered_by};
 
 use run_marks::{MarkNotes, notes_law};
 use run_order::RunOrder;
@@ -52,7 +54,8 @@ pub fn run_all<L: Ledger>(
     requires known { (d : Design) × (k : Kept) × Knows d k store.old }
     requires fits { FitsSignals (design_view store.old.design.now) values.old }
     requires flags { length acted.old ≡ length rows.now.design.now.processes }
-    requires things { length rows.now.design.now.signals ≤ (state_of found.now.sets.now).tables.things }
+    requires things { length rows.now.design.now.signals + length rows.now.design.now.memories ≤ (state_of found.now.sets.now).tables.things }
+    requires memories { IsOfMemories (design_view rows.now.design.now) found.now.words.now }
     requires changed { length rows.now.design.now.signals ≤ found.now.changed.now.size }
     requires room { (p : ℕ) → p < length rows.now.design.now.processes → length (row_at rows.now.targets.now p) ≤ length scratch.old.saved }
     requires none { scratch.old.pieces.items ≡ [] }
@@ -70,9 +73,12 @@ pub fn run_all<L: Ledger>(
     ensures room { length scratch.new.saved ≡ length scratch.old.saved }
     ensures pieces { scratch.new.pieces ≡ scratch.old.pieces }
     ensures points { notes.new.points.now ≡ notes.old.points.now }
+    ensures first { notes.new.written.first ≡ notes.old.written.first }
+    ensures ranges { notes.new.written.ranges ≡ notes.old.written.ranges }
     ensures marks { AreMarksOf notes.new.points.now notes.new.marks }
     ensures steps { steps.new ≡ steps.old + length list.old.pairs }
     ensures step { (st : Closing) → IsRunOf st notes.old.points.now order.now ordered (map (λ q. q.0) list.old.pairs) rows.now.wakes.now rows.now.codes.now found.now.changed.now.items found.now.time
+        → HasWordChanges st (settle_start st (clocked_run st)).kept found.now.words.now
         → AtStep st notes.old.points.now (settle_start st (clocked_run st)) store.old values.old (state_of found.now.sets.now) acted.old notes.old.marks
         → AtStep st notes.old.points.now (all_run st) store.new values.new (state_of found.now.sets.now) acted.new notes.new.marks }
 {
@@ -108,7 +114,8 @@ fn run_next<L: Ledger>(
     requires known { (d : Design) × (k : Kept) × Knows d k store.old }
     requires fits { FitsSignals (design_view store.old.design.now) values.old }
     requires flags { length acted.old ≡ length rows.now.design.now.processes }
-    requires things { length rows.now.design.now.signals ≤ (state_of found.now.sets.now).tables.things }
+    requires things { length rows.now.design.now.signals + length rows.now.design.now.memories ≤ (state_of found.now.sets.now).tables.things }
+    requires memories { IsOfMemories (design_view rows.now.design.now) found.now.words.now }
     requires changed { length rows.now.design.now.signals ≤ found.now.changed.now.size }
     requires room { length (row_at rows.now.targets.now process) ≤ length scratch.old.saved }
     requires none { scratch.old.pieces.items ≡ [] }
@@ -121,12 +128,14 @@ fn run_next<L: Ledger>(
     ensures room { length scratch.new.saved ≡ length scratch.old.saved }
     ensures pieces { scratch.new.pieces ≡ scratch.old.pieces }
     ensures points { notes.new.points.now ≡ notes.old.points.now }
+    ensures first { notes.new.written.first ≡ notes.old.written.first }
+    ensures ranges { notes.new.written.ranges ≡ notes.old.written.ranges }
     ensures marks { AreMarksOf notes.new.points.now notes.new.marks }
     ensures steps { steps.new ≡ steps.old + 1 }
     ensures step { (st : Closing) (w : Working) → AreApart notes.old.points.now → AreOnce notes.old.points.now
         → IsStepOf st process rows.now.wakes.now rows.now.codes.now found.now.changed.now.items found.now.time → is_touched st process ≡ true
-        → AtStep st notes.old.points.now w store.old values.old (state_of found.now.sets.now) acted.old notes.old.marks
-        → AtStep st notes.old.points.now (run_settling st is_ordered process w) store.new values.new (state_of found.now.sets.now) acted.new notes.new.marks }
+        → AtRun st notes.old.points.now w store.old values.old found.now.words.now (state_of found.now.sets.now) acted.old notes.old.marks
+        → AtRun st notes.old.points.now (run_settling st is_ordered process w) store.new values.new found.now.words.now (state_of found.now.sets.now) acted.new notes.new.marks }
 {
     notes_law();
     notes.process = process;

@@ -11,7 +11,7 @@ use Rattle.bit_changes.specs.Changes.{bit_at, may_fall, may_rise, surely_falls, 
 use Rattle.bit_changes.specs.Changes as changes
 use Rattle.design_model.specs.Design.{Design, cell, signal_at, signal_cells}
 use Rattle.design_model.specs.Lawful.{IsLawfulDesign}
-use Rattle.design_model.specs.Points.{IsPoint, toggle_cell}
+use Rattle.design_model.specs.Points.{IsPoint, StateNames, toggle_cell}
 use Rattle.design_model.specs.declared.point.Point.{Point}
 use Rattle.design_model.specs.declared.point.Point.TheVariants as point
 use Rattle.mark_laws.specs.cover_points.Listed.{IsPointList, points_of}
@@ -22,9 +22,10 @@ use Rattle.mark_laws.proofs.cover_points.Members.{in_at}
 use Rattle.point_marks.specs.declared.verdict.Verdict.{Verdict}
 use Rattle.point_marks.specs.declared.verdict.Verdict.TheVariants.{Hit, Missed, Undetermined}
 use Rattle.mark_laws.specs.replay_model.Step.{Closing, all_run, bit_may_be, from_bit, known_bits, mark_toggle, point_notes, surely_same, tell, to_bit}
-use Rattle.mark_laws.specs.Signals.{FollowNotes, with_notes}
+use Rattle.mark_laws.specs.Signals.{with_notes}
+use Rattle.mark_laws.specs.cover_points.MachinePoints.{IsOfMachine}
 use Rattle.signal_marks.specs.Toggled.{index_at, toggled, verdict_of}
-use Rattle.toggle_laws.specs.Turns.{AreMoves, MarksInTurn, MarksMoved}
+use Rattle.toggle_laws.specs.Turns.{AreMoves, FollowToggles, MarksInTurn, MarksMoved}
 use Rattle.toggle_laws.proofs.Places.{IsPlaceOf, names_place, place_at}
 
 -- ---- two definitions of the same tests
@@ -138,8 +139,8 @@ module _ (st : Closing) (ps : Points) where
       ∙ ap₂ (λ a b. toggled s st.time a b v) (sym (surely_so r _ _)) (sym (may_so r _ _))
 
   module _ (lawful : IsLawfulDesign st.design) (signals : List ℕ) (before after : List Verdict) (moves : AreMoves st signals) (h : MarksInTurn st ps signals before after) where
-    toggle_follows : (k s i : ℕ) (r : Bool) → k < length (points_of ps) → point_at ps k ≡ point.Toggle s i r → IsPoint st.design [] (point.Toggle s i r) → verdict_of after k ≡ with_notes (point_notes st (point.Toggle s i r)) (verdict_of before k)
-    toggle_follows k s i r l is at =
+    toggle_follows : (ms : List StateNames) (k s i : ℕ) (r : Bool) → k < length (points_of ps) → point_at ps k ≡ point.Toggle s i r → IsPoint st.design ms (point.Toggle s i r) → verdict_of after k ≡ with_notes (point_notes st (point.Toggle s i r)) (verdict_of before k)
+    toggle_follows ms k s i r l is at =
         let place = place_at st.design lawful s i at.0 at.1 in
         let p = place.0 in
         let visit : IsVisitOf ps k (Toggle s (index_at (signal_at st.design s) p) r) = (l, ap visit_of is ∙ ap (λ j. Some (Toggle s j r)) (sym place.1.index)) in
@@ -153,19 +154,29 @@ module _ (st : Closing) (ps : Points) where
         go true place = sym (toggle_noted s i place.0 r (verdict_of before k) place.1)
         go false place = refl
 
-    follows : (k : ℕ) (x : Point) → k < length (points_of ps) → point_at ps k ≡ x → IsPoint st.design [] x → verdict_of after k ≡ with_notes (point_notes st x) (verdict_of before k)
-    follows k (point.Line p n at w) l is of = passed k (λ s i r e. (let no : Some (Line p n) ≡ Some (Toggle s i r) = ap visit_of (sym is) ∙ e in cc)) signals before after h
-    follows k (point.Logic p n at op c) l is of = passed k (λ s i r e. (let no : Some (Node p n c) ≡ Some (Toggle s i r) = ap visit_of (sym is) ∙ e in cc)) signals before after h
-    follows k (point.Toggle s i r) l is of = toggle_follows k s i r l is of
-    follows k (point.State i name s state x) l is of = absurd of.1
-    follows k (point.Arc i name s from to x y) l is of = absurd of.1
-    follows k (point.Word m i true) l is of = passed k (λ s j r e. (let no : Some (Write m i) ≡ Some (Toggle s j r) = ap visit_of (sym is) ∙ e in cc)) signals before after h
-    follows k (point.Word m i false) l is of = passed k (λ s j r e. (let no : Some (Read m i) ≡ Some (Toggle s j r) = ap visit_of (sym is) ∙ e in cc)) signals before after h
+    follows : (ms : List StateNames) (k : ℕ) (x : Point) → k < length (points_of ps) → point_at ps k ≡ x → IsPoint st.design ms x → (IsOfMachine x → ⊥) → verdict_of after k ≡ with_notes (point_notes st x) (verdict_of before k)
+    follows ms k (point.Line p n at w) l is of plain = passed k (λ s i r e. (let no : Some (Line p n) ≡ Some (Toggle s i r) = ap visit_of (sym is) ∙ e in cc)) signals before after h
+    follows ms k (point.Logic p n at op c) l is of plain = passed k (λ s i r e. (let no : Some (Node p n c) ≡ Some (Toggle s i r) = ap visit_of (sym is) ∙ e in cc)) signals before after h
+    follows ms k (point.Toggle s i r) l is of plain = toggle_follows ms k s i r l is of
+    follows ms k (point.State i name s state x) l is of plain = absurd (plain tt)
+    follows ms k (point.Arc i name s from to x y) l is of plain = absurd (plain tt)
+    follows ms k (point.Word m i true) l is of plain = passed k (λ s j r e. (let no : Some (Write m i) ≡ Some (Toggle s j r) = ap visit_of (sym is) ∙ e in cc)) signals before after h
+    follows ms k (point.Word m i false) l is of plain = passed k (λ s j r e. (let no : Some (Read m i) ≡ Some (Toggle s j r) = ap visit_of (sym is) ∙ e in cc)) signals before after h
 
-    pub all_follow : IsPointList st.design [] ps → FollowNotes st ps before after
-    all_follow list = record {
+    -- a state or an arc has no visit
+    unvisited : (x : Point) → IsOfMachine x → visit_of x ≡ None
+    unvisited (point.Line p n at w) is = absurd is
+    unvisited (point.Logic p n at op c) is = absurd is
+    unvisited (point.Toggle s i r) is = absurd is
+    unvisited (point.State i name s state x) is = refl
+    unvisited (point.Arc i name s from to x y) is = refl
+    unvisited (point.Word m i write) is = absurd is
+
+    pub all_follow : (ms : List StateNames) → IsPointList st.design ms ps → FollowToggles st ps before after
+    all_follow ms list = record {
       count = counted signals before after h;
-      each = λ k l. follows k (point_at ps k) l refl ((list.members (point_at ps k)).0 (in_at (points_of ps) k no_point l));
+      each = λ k l no. follows ms k (point_at ps k) l refl ((list.members (point_at ps k)).0 (in_at (points_of ps) k no_point l)) no;
+      machines = λ k l is. passed k (λ s i r e. (let none : None ≡ Some (Toggle s i r) = sym (unvisited (point_at ps k) is) ∙ e in cc)) signals before after h;
     }
 
   -- one signal more

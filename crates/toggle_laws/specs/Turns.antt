@@ -1,11 +1,16 @@
 -- The toggle points of signals that are marked one signal after the other.
 use Rattle.std.specs.Prelude.{◌≡◌, ◌<◌, ◌≤◌, ◌==◌, ℕ, false, List, [], ◌∷◌, length}
 use Rattle.std.specs.List.{list_any}
+use Rattle.mark_laws.specs.cover_points.Listed.{points_of}
+use Rattle.mark_laws.specs.cover_points.MachinePoints.{IsOfMachine}
+use Rattle.mark_laws.specs.cover_points.Visits.{point_at}
 use Rattle.mark_laws.specs.cover_points.declared.listing.Points.{Points}
 use Rattle.design_model.specs.Design.{signal_at}
 use Rattle.design_model.specs.declared.design.Signal.{Signal}
 use Rattle.point_marks.specs.declared.verdict.Verdict.{Verdict}
-use Rattle.mark_laws.specs.replay_model.Step.{Closing, all_run, known_bits}
+use Rattle.mark_laws.specs.replay_model.Step.{Closing, all_run, known_bits, point_notes}
+use Rattle.mark_laws.specs.Marked.{verdict_at}
+use Rattle.mark_laws.specs.Signals.{with_notes}
 use Rattle.signal_marks.specs.Seen.{MarksChange}
 use Rattle.signal_marks.specs.Toggled.{ListsBoth}
 
@@ -28,3 +33,9 @@ pub record IsMarkable (ps : Points) (x : Signal) (s : ℕ) : Type 0 where
   pub width : x.width ≤ 128
   pub plain : x.ranged ≡ false → x.width ≤ 1
   pub listed : ListsBoth ps x s
+
+-- each verdict of a point that is no state or arc is the one before it with what the step reports of its point, and those of states and arcs are as before
+pub record FollowToggles (st : Closing) (ps : Points) (before after : List Verdict) : Type 0 where
+  pub count : length after ≡ length before
+  pub each : (k : ℕ) → k < length (points_of ps) → (IsOfMachine (point_at ps k) → ⊥) → verdict_at after k ≡ with_notes (point_notes st (point_at ps k)) (verdict_at before k)
+  pub machines : (k : ℕ) → k < length (points_of ps) → IsOfMachine (point_at ps k) → verdict_at after k ≡ verdict_at before k

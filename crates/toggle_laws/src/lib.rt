@@ -1,9 +1,8 @@
 //! Theorems that join the toggles marked in a step with what the replay reports of them; there is no code.
 //!
 //! Where the toggle points of the signals that may move are marked, one signal after the other, each verdict is the one
-//! before it with what the step reports of its point ([`toggles_law`]): it is what `signals_law` of `mark_laws` asks, of the
-//! points of a design without state machines. [`turn_law`] adds a signal at the end. [`markable_law`] gives what
-//! `SignalMarks::mark` asks of a signal.
+//! before it with what the step reports of its point ([`toggles_law`]), where this is no state or arc; those stay as they were.
+//! [`turn_law`] adds a signal at the end. [`markable_law`] gives what `SignalMarks::mark` asks of a signal.
 #![tactic(auto)]
 
 ghost use Rattle.std.specs.Prelude.{◌<◌, ◌++◌, ◌∷◌, [], ℕ, List, length};
@@ -12,16 +11,15 @@ ghost use Rattle.mark_laws.specs.cover_points.declared.listing.Points.{Points};
 ghost use Rattle.design_model.specs.Design.{Design, signal_at};
 ghost use Rattle.design_model.specs.Lawful.{IsLawfulDesign};
 ghost use Rattle.design_model.specs.Points.{StateNames};
-ghost use Rattle.mark_laws.specs.Signals.{FollowNotes};
 ghost use Rattle.point_marks.specs.declared.verdict.Verdict.{Verdict};
 ghost use Rattle.mark_laws.specs.replay_model.Step.{Closing};
-ghost use Rattle.toggle_laws.specs.Turns.{AreMoves, IsMarkable, MarksInTurn, MarksMoved};
+ghost use Rattle.toggle_laws.specs.Turns.{AreMoves, FollowToggles, IsMarkable, MarksInTurn, MarksMoved};
 
-/// The toggle points of the signals that may move are marked, in turn: each verdict follows what the step reports of its
-/// point.
+/// The toggle points of the signals that may move are marked, in turn: each verdict of a point that is no state or arc follows what
+/// the step reports of its point.
 pub fn toggles_law()
-    ensures { (st : Closing) (ps : Points) (signals : List ℕ) (before after : List Verdict) → IsLawfulDesign st.design → IsPointList st.design [] ps
-        → AreMoves st signals → MarksInTurn st ps signals before after → FollowNotes st ps before after }
+    ensures { (st : Closing) (machines : List StateNames) (ps : Points) (signals : List ℕ) (before after : List Verdict) → IsLawfulDesign st.design → IsPointList st.design machines ps
+        → AreMoves st signals → MarksInTurn st ps signals before after → FollowToggles st ps before after }
 {}
 
 /// The toggle points of one signal more are marked.

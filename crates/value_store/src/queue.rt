@@ -6,10 +6,16 @@ use std::marker::Model;
 
 /// Items in order, with room for a fixed number, as the updates that nonblocking assignments queue (IEEE 1364-2001,
 /// clause 9.2.2). Only `new` takes memory.
-#[derive(Drop)]
 pub struct Queue<T> {
     items: Vec<T>,
     room: usize,
+}
+
+// Written out so that a crate which lets one go does not prove again how each of its parts is let go.
+impl<T: Drop> Drop for Queue<T> {
+    fn drop(self) {
+        let Queue { items: _, room: _ } = self;
+    }
 }
 
 impl<T> Model for Queue<T> {

@@ -9,10 +9,19 @@ use crate::{DumpFault, Heard, Item, Step};
 use four_state::Four;
 
 /// Reads the body of a dump piece by piece. It takes no memory.
-#[derive(Drop)]
 pub struct Body {
     pub(crate) reader: BodyReader,
     pub(crate) fault: Option<DumpFault>,
+}
+
+// Written out so that a crate which lets one go does not prove again how each of its parts is let go.
+impl Drop for Body {
+    fn drop(self) {
+        let Body {
+            reader: _,
+            fault: _,
+        } = self;
+    }
 }
 
 impl Body {

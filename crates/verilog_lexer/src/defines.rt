@@ -13,10 +13,19 @@ pub(crate) struct Define {
 
 /// Macros that are defined before the sources are read, in the order of adding. A later one of the same name
 /// replaces the earlier.
-#[derive(Drop)]
 pub struct Defines {
     alloc: Global,
     defines: Vec<Define>,
+}
+
+// Written out so that a crate which lets one go does not prove again how each of its parts is let go.
+impl Drop for Defines {
+    fn drop(self) {
+        let Defines {
+            alloc: _,
+            defines: _,
+        } = self;
+    }
 }
 
 impl Model for Defines {

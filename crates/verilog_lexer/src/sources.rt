@@ -24,11 +24,21 @@ pub(crate) struct Source {
 
 /// The sources of a design: roots, which are read in the order of adding, and includes, which are read where a
 /// directive names them. At most 256 sources of at most 67,108,864 bytes together.
-#[derive(Drop)]
 pub struct Sources {
     alloc: Global,
     sources: Vec<Source>,
     total: usize,
+}
+
+// Written out so that a crate which lets one go does not prove again how each of its parts is let go.
+impl Drop for Sources {
+    fn drop(self) {
+        let Sources {
+            alloc: _,
+            sources: _,
+            total: _,
+        } = self;
+    }
 }
 
 impl Model for Sources {

@@ -10,7 +10,6 @@ use std::marker::Model;
 /// The processes that are to run, each once. They are taken in order of rank, and those of equal rank in the order in
 /// which they were put in. Putting one in and taking one out take at most the logarithm of the count of processes, and
 /// no memory.
-#[derive(Drop)]
 pub struct WakeList {
     /// For each rank the processes with it.
     queues: Vec<Queue>,
@@ -20,6 +19,18 @@ pub struct WakeList {
     ranks: Vec<Option<u32>>,
     /// The ranks whose queues are not empty.
     used: LeastSet,
+}
+
+// Written out so that a crate which lets one go does not prove again how each of its parts is let go.
+impl Drop for WakeList {
+    fn drop(self) {
+        let WakeList {
+            queues: _,
+            links: _,
+            ranks: _,
+            used: _,
+        } = self;
+    }
 }
 
 impl Model for WakeList {

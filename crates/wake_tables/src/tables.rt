@@ -4,7 +4,6 @@ use four_state::Edge;
 use index_sets::Rows;
 
 /// What wakes each process of a design and what each process may write, by number.
-#[derive(Drop)]
 pub struct WakeTables {
     /// How many signals and memories there are. They are numbered from 0, the signals first.
     pub things: usize,
@@ -29,4 +28,20 @@ pub struct WakeTables {
     ghost blocking_within: { IsTable blocking processes things },
     ghost nonblocking_within: { IsTable nonblocking processes things },
     ghost events_within: { IsEventTable events processes things },
+}
+
+// Written out so that a crate which lets one go does not prove again how each of its parts is let go.
+impl Drop for WakeTables {
+    fn drop(self) {
+        let WakeTables {
+            things: _,
+            processes: _,
+            level: _,
+            rising: _,
+            falling: _,
+            blocking: _,
+            nonblocking: _,
+            events: _,
+        } = self;
+    }
 }

@@ -14,12 +14,21 @@ use std::alloc::Global;
 use write_log::Memory;
 
 /// What a store holds of a memory.
-#[derive(Drop)]
 pub struct StoredMemory {
     /// What is known of its words.
     pub words: Rebuilt,
     /// Whether the run of a body has written it by a blocking assignment.
     pub written: bool,
+}
+
+// Written out so that a crate which lets one go does not prove again how each of its parts is let go.
+impl Drop for StoredMemory {
+    fn drop(self) {
+        let StoredMemory {
+            words: _,
+            written: _,
+        } = self;
+    }
 }
 
 impl StoredMemory {

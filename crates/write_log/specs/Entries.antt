@@ -40,7 +40,7 @@ pub record Moved (from to : List Overwritten) (v : Signals) (from' to' : List Ov
   pub named : (x : ℕ) → names came x ≡ names gone x
   pub under : SameUnder v v'
 
--- what two ways leave of a signal, but for its sign flag: the value that both have, or what they have in common, blamed on the test
+-- what two ways leave of a signal, except its sign flag: the value that both have, or what they have in common, blamed on the test
 abbrev pub IsCommon : ℕ → Partly → Partly → Partly → Type 0
 IsCommon test a b q =
     ((a.bits ≡ b.bits) × (a.blame ≡ b.blame) × (q.bits ≡ a.bits) × (q.blame ≡ a.blame))

@@ -45,7 +45,7 @@ fn join_one(entry: &Overwritten, seen: &mut IndexSet, signals: &mut Signals, tes
     }
 }
 
-/// Joins the values of the first entry of each signal with what the signals have, but for those that have been seen.
+/// Joins the values of the first entry of each signal with what the signals have, except those that have been seen.
 pub(crate) fn join_all(
     entries: &[Overwritten],
     seen: &mut IndexSet,

@@ -1,4 +1,4 @@
-use Rattle.std.proofs.Common.{◌≡◌, ◌∙◌, ◌∷◌, [], ℕ, Bool, Some, subst, sym}
+use Rattle.std.proofs.Common.{◌≡◌, ◌∙◌, ◌∷◌, [], ℕ, Bool, Some, refl, subst, sym}
 use Rattle.body_replay.specs.Contract.{clean}
 use Rattle.design_model.specs.Lawful.{IsLawfulDesign}
 use Rattle.design_model.specs.View.{design_view}
@@ -8,7 +8,7 @@ use Rattle.chosen_runs.specs.clocked_block.clocked_runs.block_runs.body_calls.Ow
 use Rattle.chosen_runs.specs.clocked_block.entry_values.replay_model.Step.{clean_store, run_clean}
 use Rattle.chosen_runs.specs.clocked_block.entry_values.step_values.Dumped.{AreDumped}
 use Rattle.run_marks.specs.cover_marks.Marks.{AreMarksOf}
-use Rattle.clocked_marks.proofs.Marked.{clocked_after, reported}
+use Rattle.clocked_marks.proofs.Marked.{clocked_after, listed, reported}
 use Rattle.clocked_marks.proofs.Trial.{trial, trial_by, trial_can, trial_dumped, trial_runs, trial_state}
 use Rattle.clocked_marks.proofs.clean.mark_clean.Goals as goal
 
@@ -52,14 +52,14 @@ returns-clause-points g c =
     let m = c.args.notes.now in
     let r = c.run_chosen.new.notes in
     let took = c.run_chosen.ensures.took in
-    (reported c.args.process m.points.now r.points.now r.process m.marks r.marks c.requires.marks (design_view c.args.design.now) [] took.0 (λ s h. took.1.added s [] h)).points
+    (reported c.args.process m.points.now r.points.now r.process m.marks r.marks m.written r.written c.requires.marks (design_view c.args.design.now) [] took.0 (λ s h. took.1.added s [] h)).points
 
 pub returns-clause-marks : goal.returns-clause-marks
 returns-clause-marks g c =
     let m = c.args.notes.now in
     let r = c.run_chosen.new.notes in
     let took = c.run_chosen.ensures.took in
-    let told = reported c.args.process m.points.now r.points.now r.process m.marks r.marks c.requires.marks (design_view c.args.design.now) [] took.0 (λ s h. took.1.added s [] h) in
+    let told = reported c.args.process m.points.now r.points.now r.process m.marks r.marks m.written r.written c.requires.marks (design_view c.args.design.now) [] took.0 (λ s h. took.1.added s [] h) in
     subst (λ ps. AreMarksOf ps r.marks) (sym told.points) told.marks
 
 pub returns-clause-step : goal.returns-clause-step
@@ -68,4 +68,18 @@ returns-clause-step g c = λ st w ps apart once by dumped in_step at.
     let r = c.run_chosen.new.notes in
     let lawful = subst IsLawfulDesign (sym c.requires.same ∙ at.runs.meets.keeps.design) c.requires.lawful in
     let took = c.run_chosen.ensures.notes st w ps by dumped in_step at.runs in
-    clocked_after c.notes_law.ensures st c.args.time c.args.process (clean_store st c.args.process c.args.trigger w) (clean st.time) by lawful m.points.now r.points.now w (c.args.process ∷ ps) ps c.args.store.now c.run_chosen.new.store r.process m.marks r.marks apart once at (λ s h. took.added s [] h) (c.run_chosen.ensures.runs st w ps by dumped in_step at.runs)
+    clocked_after c.notes_law.ensures c.unnoted_law.ensures st c.args.time c.args.process (clean_store st c.args.process c.args.trigger w) (clean st.time) tt by lawful m.points.now r.points.now w (c.args.process ∷ ps) ps c.args.store.now c.run_chosen.new.store r.process m r refl apart once at (λ s h. took.added s [] h) (c.run_chosen.ensures.runs st w ps by dumped in_step at.runs)
+
+pub returns-clause-first : goal.returns-clause-first
+returns-clause-first g c =
+    let m = c.args.notes.now in
+    let r = c.run_chosen.new.notes in
+    let took = c.run_chosen.ensures.took in
+    (listed c.args.process m.points.now r.points.now r.process m.marks r.marks m.written r.written c.requires.marks (design_view c.args.design.now) [] took.0 (λ s h. took.1.added s [] h)).first
+
+pub returns-clause-ranges : goal.returns-clause-ranges
+returns-clause-ranges g c =
+    let m = c.args.notes.now in
+    let r = c.run_chosen.new.notes in
+    let took = c.run_chosen.ensures.took in
+    (listed c.args.process m.points.now r.points.now r.process m.marks r.marks m.written r.written c.requires.marks (design_view c.args.design.now) [] took.0 (λ s h. took.1.added s [] h)).ranges

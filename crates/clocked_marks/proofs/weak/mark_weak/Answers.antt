@@ -1,4 +1,4 @@
-use Rattle.std.proofs.Common.{◌∙◌, ◌∷◌, [], ℕ, Bool, None, Some, false, subst, sym}
+use Rattle.std.proofs.Common.{◌∙◌, ◌∷◌, [], ℕ, Bool, None, Some, false, refl, subst, sym}
 use Rattle.event_machine.specs.Cell.{Values}
 use Rattle.four_state.specs.declared.bit.Bit.{Bit}
 use Rattle.four_state.specs.declared.bit.Bit.TheVariants.{X}
@@ -7,7 +7,7 @@ use Rattle.design_model.specs.Lawful.{IsLawfulDesign}
 use Rattle.design_model.specs.View.{design_view}
 use Rattle.chosen_runs.specs.clocked_block.entry_values.replay_model.Step.{plain_store, run_weak}
 use Rattle.run_marks.specs.cover_marks.Marks.{AreMarksOf}
-use Rattle.clocked_marks.proofs.Marked.{clocked_after, reported}
+use Rattle.clocked_marks.proofs.Marked.{clocked_after, listed, reported}
 use Rattle.clocked_marks.proofs.Trial.{trial, trial_by, trial_can, trial_runs, trial_state}
 use Rattle.clocked_marks.proofs.weak.mark_weak.Goals as goal
 
@@ -35,14 +35,14 @@ returns-clause-points g c =
     let m = c.args.notes.now in
     let r = c.run_weak.new.notes in
     let took = c.run_weak.ensures.took in
-    (reported c.args.process m.points.now r.points.now r.process m.marks r.marks c.requires.marks (design_view c.args.design.now) [] took.0 (λ s h. took.1.added s [] h)).points
+    (reported c.args.process m.points.now r.points.now r.process m.marks r.marks m.written r.written c.requires.marks (design_view c.args.design.now) [] took.0 (λ s h. took.1.added s [] h)).points
 
 pub returns-clause-marks : goal.returns-clause-marks
 returns-clause-marks g c =
     let m = c.args.notes.now in
     let r = c.run_weak.new.notes in
     let took = c.run_weak.ensures.took in
-    let told = reported c.args.process m.points.now r.points.now r.process m.marks r.marks c.requires.marks (design_view c.args.design.now) [] took.0 (λ s h. took.1.added s [] h) in
+    let told = reported c.args.process m.points.now r.points.now r.process m.marks r.marks m.written r.written c.requires.marks (design_view c.args.design.now) [] took.0 (λ s h. took.1.added s [] h) in
     subst (λ ps. AreMarksOf ps r.marks) (sym told.points) told.marks
 
 pub returns-clause-step : goal.returns-clause-step
@@ -51,4 +51,18 @@ returns-clause-step g c = λ st w ps apart once by at.
     let r = c.run_weak.new.notes in
     let lawful = subst IsLawfulDesign (sym c.requires.same ∙ at.runs.meets.keeps.design) c.requires.lawful in
     let took = c.run_weak.ensures.notes st w ps by at.runs in
-    clocked_after c.notes_law.ensures st c.args.time c.args.process (plain_store w.kept) (weak st.time c.args.waker) by lawful m.points.now r.points.now w (c.args.process ∷ ps) ps c.args.store.now c.run_weak.new.store r.process m.marks r.marks apart once at (λ s h. took.added s [] h) (c.run_weak.ensures.runs st w ps by at.runs)
+    clocked_after c.notes_law.ensures c.unnoted_law.ensures st c.args.time c.args.process (plain_store w.kept) (weak st.time c.args.waker) tt by lawful m.points.now r.points.now w (c.args.process ∷ ps) ps c.args.store.now c.run_weak.new.store r.process m r refl apart once at (λ s h. took.added s [] h) (c.run_weak.ensures.runs st w ps by at.runs)
+
+pub returns-clause-first : goal.returns-clause-first
+returns-clause-first g c =
+    let m = c.args.notes.now in
+    let r = c.run_weak.new.notes in
+    let took = c.run_weak.ensures.took in
+    (listed c.args.process m.points.now r.points.now r.process m.marks r.marks m.written r.written c.requires.marks (design_view c.args.design.now) [] took.0 (λ s h. took.1.added s [] h)).first
+
+pub returns-clause-ranges : goal.returns-clause-ranges
+returns-clause-ranges g c =
+    let m = c.args.notes.now in
+    let r = c.run_weak.new.notes in
+    let took = c.run_weak.ensures.took in
+    (listed c.args.process m.points.now r.points.now r.process m.marks r.marks m.written r.written c.requires.marks (design_view c.args.design.now) [] took.0 (λ s h. took.1.added s [] h)).ranges

@@ -6,17 +6,17 @@ use Rattle.command_line.proofs.command.read_score.Goals as goal
 
 pub loop-word-preserved : goal.loop-word-preserved
 loop-word-preserved c =
-    HasRead-more _ _ _ _ _ _ c.in-Some-named.option c.in-Some.word.now c.in-Some-next_word.value.now
-    c.loop-word.invariant c.in-Some.ensures.word c.in-Some-next_word.ensures.word c.in-Some-named.ensures.named
+    HasRead-more _ _ _ _ _ _ c.in-Some-named.option c.in-Some.word.now c.in-Some-value_after.value.now
+    c.loop-word.invariant c.in-Some.ensures.word c.in-Some-value_after.ensures.value c.in-Some-named.ensures.named
     (grind (arith, common_steps)) (grind (arith, common_steps)) c.set.ensures.words c.set.ensures.values
 
-pub returns-in_default-next_word-clause-fault : goal.returns-in_default-next_word-clause-fault
-returns-in_default-next_word-clause-fault c =
+pub returns-in_default-value_after-clause-fault : goal.returns-in_default-value_after-clause-fault
+returns-in_default-value_after-clause-fault c =
     let read = c.loop-word.invariant in (
       read.given,
       left_words c.loop-word.left,
       read.up_to,
-      needs_value _ _ _ _ c.in-Some-named.option c.in-Some.word.now read c.in-Some.ensures.word c.in-Some-named.ensures.named (grind (arith, common_steps)) c.in_default-next_word.ensures.end.0,
+      needs_value _ _ _ _ c.in-Some-named.option c.in-Some.word.now read c.in-Some.ensures.word c.in-Some-named.ensures.named (grind (arith, common_steps)) c.in_default-value_after.ensures.none.0 c.in_default-value_after.ensures.none.1,
     )
 
 pub returns-then-not-accepts-clause-fault : goal.returns-then-not-accepts-clause-fault
@@ -25,7 +25,7 @@ returns-then-not-accepts-clause-fault c =
       read.given,
       left_words c.loop-word.left,
       read.up_to,
-      has_bad_value _ _ _ _ c.in-Some-named.option c.in-Some.word.now read c.in-Some.ensures.word c.in-Some-named.ensures.named (grind (arith, common_steps)) _ c.in-Some-next_word.value.now c.in-Some-next_word.ensures.word (grind (arith, common_steps)),
+      has_bad_value _ _ _ _ c.in-Some-named.option c.in-Some.word.now read c.in-Some.ensures.word c.in-Some-named.ensures.named (grind (arith, common_steps)) _ c.in-Some-value_after.value.now c.in-Some-value_after.ensures.value c.in-Some-value_after.ensures.empty (grind (arith, common_steps)),
     )
 
 pub returns-in-Ok-clause-score : goal.returns-in-Ok-clause-score

@@ -13,6 +13,3 @@ returns-in-Included-clause-line g c = rw c.in-Included.is (WarnsLine-is _ _ (g.H
 
 pub returns-in-Refused-clause-line : goal.returns-in-Refused-clause-line
 returns-in-Refused-clause-line g c = rw c.in-Refused.is c.warn_refused.ensures.line
-
-pub returns-in-NotYet-clause-line : goal.returns-in-NotYet-clause-line
-returns-in-NotYet-clause-line g c = rw c.in-NotYet.is (WarnsLine-is _ _ (g.H.Host.outside c.args.host.now) (g.H.Host.outside c.warn_pieces-in-NotYet.new.host) (search (rules, c.as_bytes-in-NotYet.ensures.value)) c.warn_pieces-in-NotYet.ensures.line)

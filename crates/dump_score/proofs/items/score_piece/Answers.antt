@@ -20,8 +20,8 @@ pub returns-in_err-heard-clause-fault : goal.returns-in_err-heard-clause-fault
 returns-in_err-heard-clause-fault c =
     let fault = err_from_is_err_and c.from_residual.result c.from_residual.ensures.1 in
     let refused = rw c.split_at.ensures.back at c.in_err-heard.ensures.fault in
-    rw (fault.1, fault.2) (λ design points vars instance text is.
-    let turn = c.loop-used.invariant.scores design points vars instance text is in
+    rw (fault.1, fault.2) (λ habit design points vars instance text is.
+    let turn = c.loop-used.invariant.scores habit design points vars instance text is in
     found_in_piece text c.args.piece.now c.loop-used.used _ (omega (arith, length-drop c.loop-used.used c.args.piece.now, c.loop-used-test.true)) (refused (text ++ take c.loop-used.used c.args.piece.now) turn.b turn.stands))
 
 pub say-requires : goal.say-requires
@@ -33,9 +33,9 @@ pub returns-in_err-say-clause-fault : goal.returns-in_err-say-clause-fault
 returns-in_err-say-clause-fault c =
     let fault = err_from_is_err_and c.from_residual-in_err-say.result c.from_residual-in_err-say.ensures.1 in
     let at = (goal.at.returns-in_err-say-clause-fault c).In_ok-heard in
-    rw (fault.1, fault.2) (λ design points vars instance text is.
-    say_found_in_piece c.wanted.result.now (item_by c.in_ok-heard.heard.saying c.value.result.now) c.in_ok-heard.heard.used c.loop-used.used c.loop-used.body c.next_of.new.self c.loop-used.replay c.args.piece.now design points vars instance text _ (some at) (steps at c.value.result.now c.value.ensures) c.wanted.ensures
-    c.in_err-say.ensures.fault (c.loop-used.invariant.scores design points vars instance text is))
+    rw (fault.1, fault.2) (λ habit design points vars instance text is.
+    say_found_in_piece c.wanted.result.now (item_by c.in_ok-heard.heard.saying c.value.result.now) c.in_ok-heard.heard.used c.loop-used.used c.loop-used.body c.next_of.new.self c.loop-used.replay c.args.piece.now habit design points vars instance text _ (some at) (steps at c.value.result.now c.value.ensures) c.wanted.ensures
+    c.in_err-say.ensures.fault (c.loop-used.invariant.scores habit design points vars instance text is))
 
 pub overflow_add-used : goal.overflow_add-used
 overflow_add-used c =
@@ -58,10 +58,10 @@ loop-used-preserved c =
     record {
       within = omega (arith, reads.2, length-drop c.loop-used.used c.args.piece.now, c.loop-used-test.true);
       reads = scoring_some c.wanted.result.now says c.in_ok-heard.heard.used c.loop-used.body c.next_of.new.self c.loop-used.replay c.say.new.replay _ (some at) made c.wanted.ensures c.in_ok-say.ensures.ok c.loop-used.invariant.reads;
-      scores = λ design points vars instance text is.
-          scored_further c.wanted.result.now says c.in_ok-heard.heard.used c.loop-used.used c.loop-used.body c.next_of.new.self c.loop-used.replay c.say.new.replay c.args.piece.now design points vars instance text (some at) made c.wanted.ensures c.in_ok-say.ensures.ok
-          (c.loop-used.invariant.scores design points vars instance text is);
+      scores = λ habit design points vars instance text is.
+          scored_further c.wanted.result.now says c.in_ok-heard.heard.used c.loop-used.used c.loop-used.body c.next_of.new.self c.loop-used.replay c.say.new.replay c.args.piece.now habit design points vars instance text (some at) made c.wanted.ensures c.in_ok-say.ensures.ok
+          (c.loop-used.invariant.scores habit design points vars instance text is);
     }
 
 pub returns-clause-ok : goal.returns-clause-ok
-returns-clause-ok c = λ design points vars instance text is. whole_piece _ _ design points vars instance text c.args.piece.now c.loop-used.used (omega (arith, c.loop-used-test.false)) (c.loop-used.invariant.scores design points vars instance text is)
+returns-clause-ok c = λ habit design points vars instance text is. whole_piece _ _ habit design points vars instance text c.args.piece.now c.loop-used.used (omega (arith, c.loop-used-test.false)) (c.loop-used.invariant.scores habit design points vars instance text is)

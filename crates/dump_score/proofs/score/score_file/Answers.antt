@@ -1,6 +1,6 @@
 use Rattle.std.proofs.lemmas.Result.{err_from_is_err_and}
 use Rattle.design_model.specs.View.{design_view}
-use Rattle.event_machine.specs.Habit.{Free}
+use Rattle.dump_replay.specs.replay_core.wake_laws.Laws.{habit_of}
 use Rattle.dump_replay.specs.shown_dumps.Shown.{bound_dump}
 use Rattle.whole_files.proofs.EffectLemmas.{OnlyReads-trans}
 use Rattle.dump_score.proofs.FileLemmas.{header_refuses, nothing_read}
@@ -14,13 +14,13 @@ returns-in_err-opened-clause-fault g c =
     let name = c.args.name.now in
     let before = g.H.Host.outside c.args.host.now in
     let start = nothing_read name before (g.H.Host.outside c.open.new.host) c.in_ok-open.ensures.opened c.in_ok-open.ensures.effects in
-    rw (fault.1, fault.2) (header_refuses name before (g.H.Host.outside c.read_header.new.host) c.args.design.now c.args.instance.now _ (c.in_err-opened.ensures.fault name before start))
+    rw (fault.1, fault.2) (header_refuses name before (g.H.Host.outside c.read_header.new.host) (habit_of c.args.habit) c.args.design.now c.args.instance.now _ (c.in_err-opened.ensures.fault name before start))
 
 pub new-requires-clause-placed : goal.new-requires-clause-placed
-new-requires-clause-placed g c = c.requires.points.placed
+new-requires-clause-placed g c = c.requires.points.1.placed
 
 pub new-requires-clause-few : goal.new-requires-clause-few
-new-requires-clause-few g c = c.requires.points.few
+new-requires-clause-few g c = c.requires.points.1.few
 
 pub returns-in_err-replay-clause-fault : goal.returns-in_err-replay-clause-fault
 returns-in_err-replay-clause-fault g c =
@@ -29,7 +29,7 @@ returns-in_err-replay-clause-fault g c =
     let before = g.H.Host.outside c.args.host.now in
     let start = nothing_read name before (g.H.Host.outside c.open.new.host) c.in_ok-open.ensures.opened c.in_ok-open.ensures.effects in
     let now = g.H.Host.outside c.read_header.new.host in
-    rw (fault.1, fault.2) (bind_in_file name before now now c.args.design.now c.args.instance.now c.read_header.new.piece c.in_ok-opened.opened _ (c.in_ok-opened.ensures.opened name before start) c.in_err-replay.ensures.fault)
+    rw (fault.1, fault.2) (bind_in_file name before now now (habit_of c.args.habit) c.args.design.now c.args.instance.now c.read_header.new.piece c.in_ok-opened.opened _ (c.in_ok-opened.ensures.opened name before start) c.in_err-replay.ensures.fault)
 
 pub score_body-requires-clause-used : goal.score_body-requires-clause-used
 score_body-requires-clause-used g c =
@@ -54,8 +54,8 @@ score_body-requires-clause-body g c =
     let piece = c.read_header.new.piece in
     let opened = c.in_ok-opened.opened in
     let o = c.in_ok-opened.ensures.opened name before start in
-    let is = opened_bound name before now piece opened c.in_ok-replay.replay c.args.design.now c.args.points.now c.args.instance.now o c.in_ok-replay.ensures.followed in
-    λ some. open_scoring name before now piece opened.span opened.body c.in_ok-replay.replay c.args.design.now c.args.points.now opened.vars c.args.instance.now is some
+    let is = opened_bound name before now piece opened c.in_ok-replay.replay (habit_of c.args.habit) c.args.design.now c.args.points.now c.args.instance.now o c.in_ok-replay.ensures.followed in
+    λ some. open_scoring name before now piece opened.span opened.body c.in_ok-replay.replay (habit_of c.args.habit) c.args.design.now c.args.points.now opened.vars c.args.instance.now is some
 
 pub returns-in_err-score_body-clause-fault : goal.returns-in_err-score_body-clause-fault
 returns-in_err-score_body-clause-fault g c =
@@ -67,8 +67,8 @@ returns-in_err-score_body-clause-fault g c =
     let piece = c.read_header.new.piece in
     let opened = c.in_ok-opened.opened in
     let o = c.in_ok-opened.ensures.opened name before start in
-    let is = opened_bound name before now piece opened c.in_ok-replay.replay c.args.design.now c.args.points.now c.args.instance.now o c.in_ok-replay.ensures.followed in
-    rw (fault.1, fault.2) (c.in_err-score_body.ensures.fault name before c.args.design.now c.args.points.now opened.vars c.args.instance.now is)
+    let is = opened_bound name before now piece opened c.in_ok-replay.replay (habit_of c.args.habit) c.args.design.now c.args.points.now c.args.instance.now o c.in_ok-replay.ensures.followed in
+    rw (fault.1, fault.2) (c.in_err-score_body.ensures.fault name before (habit_of c.args.habit) c.args.design.now c.args.points.now opened.vars c.args.instance.now is)
 
 pub score_end-requires : goal.score_end-requires
 score_end-requires g c =
@@ -79,9 +79,9 @@ score_end-requires g c =
     let piece = c.read_header.new.piece in
     let opened = c.in_ok-opened.opened in
     let o = c.in_ok-opened.ensures.opened name before start in
-    let is = opened_bound name before now piece opened c.in_ok-replay.replay c.args.design.now c.args.points.now c.args.instance.now o c.in_ok-replay.ensures.followed in
-    let on = c.in_ok-score_body.ensures.ok name before c.args.design.now c.args.points.now opened.vars c.args.instance.now is in
-    (c.args.design.now, c.args.points.now, opened.vars, c.args.instance.now, on.0, on.2)
+    let is = opened_bound name before now piece opened c.in_ok-replay.replay (habit_of c.args.habit) c.args.design.now c.args.points.now c.args.instance.now o c.in_ok-replay.ensures.followed in
+    let on = c.in_ok-score_body.ensures.ok name before (habit_of c.args.habit) c.args.design.now c.args.points.now opened.vars c.args.instance.now is in
+    (habit_of c.args.habit, c.args.design.now, c.args.points.now, opened.vars, c.args.instance.now, on.0, on.2)
 
 pub returns-in_err-score_end-clause-fault : goal.returns-in_err-score_end-clause-fault
 returns-in_err-score_end-clause-fault g c =
@@ -93,12 +93,13 @@ returns-in_err-score_end-clause-fault g c =
     let piece = c.read_header.new.piece in
     let opened = c.in_ok-opened.opened in
     let o = c.in_ok-opened.ensures.opened name before start in
+    let habit = habit_of c.args.habit in
     let design = c.args.design.now in
     let points = c.args.points.now in
     let instance = c.args.instance.now in
-    let is = opened_bound name before now piece opened c.in_ok-replay.replay design points instance o c.in_ok-replay.ensures.followed in
-    let on = c.in_ok-score_body.ensures.ok name before design points opened.vars instance is in
-    rw (fault.1, fault.2) (end_in_file name before (g.H.Host.outside c.score_body.new.host) design instance on.0 _ on.1 (can_end_binds _ _ design points opened.vars instance on.0 on.2) (c.in_err-score_end.ensures.fault design points opened.vars instance on.0 on.2))
+    let is = opened_bound name before now piece opened c.in_ok-replay.replay habit design points instance o c.in_ok-replay.ensures.followed in
+    let on = c.in_ok-score_body.ensures.ok name before habit design points opened.vars instance is in
+    rw (fault.1, fault.2) (end_in_file name before (g.H.Host.outside c.score_body.new.host) habit design instance on.0 _ on.1 (can_end_binds _ _ habit design points opened.vars instance on.0 on.2) (c.in_err-score_end.ensures.fault habit design points opened.vars instance on.0 on.2))
 
 pub finish-marks-requires : goal.finish-marks-requires
 finish-marks-requires g c =
@@ -109,9 +110,9 @@ finish-marks-requires g c =
     let piece = c.read_header.new.piece in
     let opened = c.in_ok-opened.opened in
     let o = c.in_ok-opened.ensures.opened name before start in
-    let is = opened_bound name before now piece opened c.in_ok-replay.replay c.args.design.now c.args.points.now c.args.instance.now o c.in_ok-replay.ensures.followed in
-    let on = c.in_ok-score_body.ensures.ok name before c.args.design.now c.args.points.now opened.vars c.args.instance.now is in
-    record { ready = (c.in_ok-score_end.ensures.ok c.args.design.now c.args.points.now opened.vars c.args.instance.now on.0 on.2).followed.of.ready }
+    let is = opened_bound name before now piece opened c.in_ok-replay.replay (habit_of c.args.habit) c.args.design.now c.args.points.now c.args.instance.now o c.in_ok-replay.ensures.followed in
+    let on = c.in_ok-score_body.ensures.ok name before (habit_of c.args.habit) c.args.design.now c.args.points.now opened.vars c.args.instance.now is in
+    record { ready = (c.in_ok-score_end.ensures.ok (habit_of c.args.habit) c.args.design.now c.args.points.now opened.vars c.args.instance.now on.0 on.2).followed.of.ready }
 
 pub score_table-requires-clause-marks : goal.score_table-requires-clause-marks
 score_table-requires-clause-marks g c =
@@ -122,13 +123,14 @@ score_table-requires-clause-marks g c =
     let piece = c.read_header.new.piece in
     let opened = c.in_ok-opened.opened in
     let o = c.in_ok-opened.ensures.opened name before start in
+    let habit = habit_of c.args.habit in
     let design = c.args.design.now in
     let points = c.args.points.now in
     let instance = c.args.instance.now in
-    let is = opened_bound name before now piece opened c.in_ok-replay.replay design points instance o c.in_ok-replay.ensures.followed in
-    let on = c.in_ok-score_body.ensures.ok name before design points opened.vars instance is in
-    let scored = c.in_ok-score_end.ensures.ok design points opened.vars instance on.0 on.2 in
-    (c.finish-marks.ensures design points opened.vars instance scored.b.items (scored_rises c.score_end.new.replay design points opened.vars instance on.0 scored) scored.followed).of
+    let is = opened_bound name before now piece opened c.in_ok-replay.replay habit design points instance o c.in_ok-replay.ensures.followed in
+    let on = c.in_ok-score_body.ensures.ok name before habit design points opened.vars instance is in
+    let scored = c.in_ok-score_end.ensures.ok habit design points opened.vars instance on.0 on.2 in
+    (c.finish-marks.ensures habit design points opened.vars instance scored.b.items (scored_rises c.score_end.new.replay habit design points opened.vars instance on.0 scored) scored.followed).of
 
 pub score_table-requires-clause-scored : goal.score_table-requires-clause-scored
 score_table-requires-clause-scored g c =
@@ -139,17 +141,18 @@ score_table-requires-clause-scored g c =
     let piece = c.read_header.new.piece in
     let opened = c.in_ok-opened.opened in
     let o = c.in_ok-opened.ensures.opened name before start in
+    let habit = habit_of c.args.habit in
     let design = c.args.design.now in
     let points = c.args.points.now in
     let instance = c.args.instance.now in
-    let is = opened_bound name before now piece opened c.in_ok-replay.replay design points instance o c.in_ok-replay.ensures.followed in
-    let on = c.in_ok-score_body.ensures.ok name before design points opened.vars instance is in
-    let scored = c.in_ok-score_end.ensures.ok design points opened.vars instance on.0 on.2 in
-    let final = c.finish-marks.ensures design points opened.vars instance scored.b.items (scored_rises c.score_end.new.replay design points opened.vars instance on.0 scored) scored.followed in
-    (Free, bound_dump design (said c.score_end.new.replay design points opened.vars instance on.0 scored) instance, scored_times c.score_end.new.replay design points opened.vars instance on.0 scored, final.scored)
+    let is = opened_bound name before now piece opened c.in_ok-replay.replay habit design points instance o c.in_ok-replay.ensures.followed in
+    let on = c.in_ok-score_body.ensures.ok name before habit design points opened.vars instance is in
+    let scored = c.in_ok-score_end.ensures.ok habit design points opened.vars instance on.0 on.2 in
+    let final = c.finish-marks.ensures habit design points opened.vars instance scored.b.items (scored_rises c.score_end.new.replay habit design points opened.vars instance on.0 scored) scored.followed in
+    (habit, bound_dump design (said c.score_end.new.replay habit design points opened.vars instance on.0 scored) instance, scored_times c.score_end.new.replay habit design points opened.vars instance on.0 scored, final.scored)
 
 pub returns-clause-scored : goal.returns-clause-scored
-returns-clause-scored g c =
+returns-clause-scored g c = λ machines all.
     let name = c.args.name.now in
     let before = g.H.Host.outside c.args.host.now in
     let start = nothing_read name before (g.H.Host.outside c.open.new.host) c.in_ok-open.ensures.opened c.in_ok-open.ensures.effects in
@@ -157,16 +160,17 @@ returns-clause-scored g c =
     let piece = c.read_header.new.piece in
     let opened = c.in_ok-opened.opened in
     let o = c.in_ok-opened.ensures.opened name before start in
+    let habit = habit_of c.args.habit in
     let design = c.args.design.now in
     let points = c.args.points.now in
     let instance = c.args.instance.now in
-    let is = opened_bound name before now piece opened c.in_ok-replay.replay design points instance o c.in_ok-replay.ensures.followed in
-    let on = c.in_ok-score_body.ensures.ok name before design points opened.vars instance is in
-    let scored = c.in_ok-score_end.ensures.ok design points opened.vars instance on.0 on.2 in
+    let is = opened_bound name before now piece opened c.in_ok-replay.replay habit design points instance o c.in_ok-replay.ensures.followed in
+    let on = c.in_ok-score_body.ensures.ok name before habit design points opened.vars instance is in
+    let scored = c.in_ok-score_end.ensures.ok habit design points opened.vars instance on.0 on.2 in
     let replay = c.score_end.new.replay in
-    let final = c.finish-marks.ensures design points opened.vars instance scored.b.items (scored_rises replay design points opened.vars instance on.0 scored) scored.followed in
-    let times = scored_times replay design points opened.vars instance on.0 scored in
-    scored_file replay design points opened.vars instance on.0 scored name before c.args.sources c.finish-marks.result _ on.1 final (c.in_ok-score_table.ensures Free _ times final.scored)
+    let final = c.finish-marks.ensures habit design points opened.vars instance scored.b.items (scored_rises replay habit design points opened.vars instance on.0 scored) scored.followed in
+    let times = scored_times replay habit design points opened.vars instance on.0 scored in
+    scored_file replay habit design points opened.vars instance on.0 scored name before machines c.args.sources c.finish-marks.result _ on.1 final (c.in_ok-score_table.ensures habit _ machines all times final.scored)
 
 pub returns-in_err-score_end-clause-effects : goal.returns-in_err-score_end-clause-effects
 returns-in_err-score_end-clause-effects g c = OnlyReads-trans _ _ _ c.in_ok-open.ensures.effects (OnlyReads-trans _ _ _ c.in_ok-opened.ensures.effects c.in_ok-score_body.ensures.effects)

@@ -6,7 +6,7 @@ use Rattle.first_step.specs.step_values.Dumped.{AreDumped}
 use Rattle.first_step.specs.store_knowledge.Knows.{Knows}
 use Rattle.step_clocked.specs.Runs.{AreFirstOf}
 use Rattle.replay_core.proofs.Given.{cells_given}
-use Rattle.replay_core.proofs.Parts.{closed_cells, given_cells, room_run, run_fits}
+use Rattle.replay_core.proofs.Parts.{closed_cells, given_cells, room_run, run_fits, words_same}
 use Rattle.replay_core.proofs.clocked.run_woken_clocked.Goals as goal
 
 -- ---- what the runs ask
@@ -84,5 +84,6 @@ returns-clause-fits g c =
     let u = record s { store = new.store; notes = new.notes } in
     let h = e.known.2 in
     let knows = subst (λ b. Knows b e.known.1 new.store) (sym h.design ∙ e.same) h in
-    run_fits d s.notes.points.now x r q s u e.known.1 c.requires.fits (room_run d x r q c.requires.fits.room refl e.count e.rest refl e.pieces e.later e.places refl) knows refl refl e.points
+    run_fits d s.notes.points.now x r q s u e.known.1 c.requires.fits (room_run d x r q c.requires.fits.room refl e.count e.rest refl e.pieces e.later e.places refl) knows refl refl refl e.points
     (subst (λ ps. Rattle.cover_marks.specs.Marks.AreMarksOf ps new.notes.marks) e.points e.marks) refl c.requires.fits.state.wide_closed
+    (words_same d x s.notes.written new.notes.written r.words r.words c.requires.fits.words e.first e.ranges refl)

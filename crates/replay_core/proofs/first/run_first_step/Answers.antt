@@ -13,7 +13,7 @@ use Rattle.first_step.specs.store_knowledge.Knows.{Knows}
 use Rattle.replay_core.specs.Made.{made_with, parts_with, subject_of}
 use Rattle.replay_core.proofs.Given.{cells_given}
 use Rattle.replay_core.proofs.Parts.{first_fits, given_cells}
-use Rattle.replay_core.proofs.Starting.{compared_below, few_run, if_found, if_none, is_first, refuted_at, starts_at}
+use Rattle.replay_core.proofs.Starting.{compared_below, few_run, if_found, if_none, is_first, refuted_at, starts_at, starts_words}
 use Rattle.replay_core.proofs.first.run_first_step.Goals as goal
 
 pub begin_first-found-requires-clause-dumped : goal.begin_first-found-requires-clause-dumped
@@ -47,11 +47,14 @@ returns-clause-starts g c =
     let fits = c.requires.fits in
     let codes = c.process_rows-rows.ensures.codes in
     if_none b.result b.ensures.none (λ none h t dump of first shown given.
-    let is = is_first d h points x c.requires.replayable (c.runs_lawful.ensures d c.requires.replayable.lawful) fits.tables dump t of first shown s c.requires.untouched given in
+    let is = is_first d h points x c.requires.replayable (c.runs_lawful.ensures d c.requires.replayable.lawful) fits.tables dump t of first shown c.args.room.now s c.requires.untouched given in
     let here = subst (λ cs. IsFirstOf d dump.bound (dump.values t) cs s.values.last s.store) (sym codes) is in (
       first_replay (subject_of (made_with d h points x) dump) t,
-      starts_at d h points x c.requires.replayable (c.runs_lawful.ensures d c.requires.replayable.lawful) fits.tables dump t of first shown s _ c.requires.untouched fits.state.marks fits.state.unsigned given (ap (λ (v : Values). v.closed) c.close.ensures) refl refl refl fits.room.sets fits.room.writers
-          (b.ensures.started d dump.bound (dump.values t) here) (none d dump.bound (dump.values t) here),
+      record {
+        parts = starts_at d h points x c.requires.replayable (c.runs_lawful.ensures d c.requires.replayable.lawful) fits.tables dump t of first shown c.args.room.now s _ c.requires.untouched fits.state.marks fits.state.unsigned given (ap (λ (v : Values). v.closed) c.close.ensures) refl refl refl refl
+            fits.room.sets fits.room.writers (b.ensures.started d dump.bound (dump.values t) here) (none d dump.bound (dump.values t) here);
+        words = starts_words d h points x c.requires.replayable (c.runs_lawful.ensures d c.requires.replayable.lawful) fits.tables dump t of first shown c.args.room.now s c.requires.untouched c.words_law.ensures.first;
+      },
     ))
 
 pub returns-clause-refutes : goal.returns-clause-refutes
@@ -64,7 +67,7 @@ returns-clause-refutes g c =
     let fits = c.requires.fits in
     let codes = c.process_rows-rows.ensures.codes in
     if_found b.result b.ensures.some b.ensures.first (λ found some differs h t dump of first shown given.
-    let is = is_first d h points x c.requires.replayable (c.runs_lawful.ensures d c.requires.replayable.lawful) fits.tables dump t of first shown s c.requires.untouched given in
+    let is = is_first d h points x c.requires.replayable (c.runs_lawful.ensures d c.requires.replayable.lawful) fits.tables dump t of first shown c.args.room.now s c.requires.untouched given in
     let cell = some d dump.bound (dump.values t) (subst (λ cs. IsFirstOf d dump.bound (dump.values t) cs s.values.last s.store) (sym codes) is) in
     refuted_at d h points x c.requires.replayable (c.runs_lawful.ensures d c.requires.replayable.lawful) fits.tables dump t of first shown cell.0 s.values.last found b.new.values.made given cell.2 (subst (λ cs. IsDifference cs s.values.last b.new.values.made found) codes differs.differs))
 

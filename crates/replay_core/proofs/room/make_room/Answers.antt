@@ -5,7 +5,10 @@ use Rattle.dump_check.specs.Checks.{Checks}
 use Rattle.early_sets.specs.WakeState.{state_of}
 use Rattle.index_sets.specs.Rows.{row_at}
 use Rattle.first_step.specs.step_wakes.Step.{IsOfDesign}
+use Rattle.body_store.specs.Made.{nothing}
+use Rattle.step_words.specs.Words.{FitsRanges, HasWords}
 use Rattle.replay_core.specs.Fits.{FitsRoom}
+use Rattle.replay_core.specs.declared.room.ReplayRoom.{ReplayRoom}
 use Rattle.replay_core.proofs.room.make_room.Goals as goal
 
 pub returns-clause-fits : goal.returns-clause-fits
@@ -40,3 +43,11 @@ returns-clause-fits c =
       ran = omega (arith, size, places, made);
       checks = ap (λ (k : Checks). k.size) c.in_ok-checks.ensures ∙ c.len-3.ensures;
     })
+
+pub returns-clause-words : goal.returns-clause-words
+returns-clause-words c = λ ranges are.
+    let d = design_view c.args.design.now in
+    let both = c.in_ok-words.ensures ranges are in (
+      subst (λ (r : ReplayRoom). FitsRanges d ranges r.words) (sym c.in_ok-new.ensures.ok) both.0,
+      subst (λ (r : ReplayRoom). HasWords d nothing ranges r.words) (sym c.in_ok-new.ensures.ok) both.1,
+    )

@@ -1,10 +1,11 @@
-use Rattle.std.proofs.Common.{◌≡◌, ◌∙◌, ◌≤◌, ℕ, Bool, ◌++◌, List, drop, length, map, take, ap, refl, subst, sym, arith}
+use Rattle.std.proofs.Common.{◌≡◌, ◌∙◌, ◌+◌, ◌≤◌, ℕ, Bool, ◌++◌, List, drop, length, map, take, ap, refl, subst, sym, arith}
 use Rattle.std.specs.List.{All}
 use Rattle.std.specs.Vec.{with_items}
 use Rattle.std.proofs.Math.Seq.{take-append_seam}
 use Rattle.cover_marks.specs.Marks.{AreMarksOf}
 use Rattle.design_model.specs.Design.{IsClocked, process_at}
 use Rattle.design_model.specs.View.{design_view}
+use Rattle.design_model.specs.declared.design.Design.{Design as CodeDesign}
 use Rattle.early_sets.specs.WakeState.{state_of}
 use Rattle.first_step.specs.step_values.Vectors.{FitsSignals}
 use Rattle.first_step.specs.store_knowledge.Knows.{Knows}
@@ -12,13 +13,23 @@ use Rattle.index_sets.specs.Rows.{row_at}
 use Rattle.replay_model.specs.Step.{all_run, clocked_run, settle_start}
 use Rattle.step_start.specs.step_parts.AtStep.{AtStep}
 use Rattle.step_runs.specs.Runs.{IsRunOf}
+use Rattle.step_words.specs.Words.{IsOfMemories}
 use Rattle.replay_core.specs.Fits.{FitsRoom}
-use Rattle.replay_core.proofs.Parts.{run_fits}
+use Rattle.replay_core.proofs.Parts.{run_fits, words_same}
 use Rattle.replay_core.proofs.runs.run_woken.Goals as goal
 
 pub run_all-requires-clause-settles : goal.run_all-requires-clause-settles
 run_all-requires-clause-settles g c =
     subst (λ D. All (λ (q : ℕ × ℕ). IsClocked (process_at (design_view D) q.0) → ⊥) c.args.room.now.step.list.pairs) (sym c.process_rows-rows.ensures.design) c.requires.settles
+
+pub run_all-requires-clause-things : goal.run_all-requires-clause-things
+run_all-requires-clause-things g c =
+    let are = c.requires.fits.room.sets.tables.things_are in
+    let size = ap (λ (D : CodeDesign). length D.signals + length D.memories) c.process_rows-rows.ensures.design in
+    omega (arith, are, size)
+
+pub run_all-requires-clause-memories : goal.run_all-requires-clause-memories
+run_all-requires-clause-memories g c = subst (λ D. IsOfMemories (design_view D) c.args.room.now.words) (sym c.process_rows-rows.ensures.design) c.requires.fits.words.ranges.memories
 
 pub returns-clause-fits : goal.returns-clause-fits
 returns-clause-fits g c =
@@ -57,10 +68,11 @@ returns-clause-fits g c =
       ran = subst (λ n. length d.processes ≤ n) (sym e.places) old.room.ran;
       checks = old.room.checks;
     } in
-    run_fits d s.notes.points.now x r q s u e.known.1 old room knows (ap length back ∙ e.flags ∙ value) refl e.points (subst (λ ps. AreMarksOf ps new.notes.marks) e.points e.marks) refl old.state.wide_closed
+    run_fits d s.notes.points.now x r q s u e.known.1 old room knows (ap length back ∙ e.flags ∙ value) refl refl e.points (subst (λ ps. AreMarksOf ps new.notes.marks) e.points e.marks) refl old.state.wide_closed
+    (words_same d x s.notes.written new.notes.written r.words r.words old.words e.first e.ranges refl)
 
 pub returns-clause-step : goal.returns-clause-step
-returns-clause-step g c = λ st run at.
+returns-clause-step g c = λ st run changes at.
     let room = c.args.room.now in
     let state = c.args.state.now in
     let tables = c.args.tables.now in
@@ -79,4 +91,4 @@ returns-clause-step g c = λ st run at.
     let run2 = subst (λ ws. IsRunOf st points tables.step.order c.len.result listed ws tables.step.codes.items room.step.changed.items c.args.time) (sym c.process_rows-rows.ensures.wakes) run1 in
     let run3 = subst (λ cs. IsRunOf st points tables.step.order c.len.result listed c.process_rows-rows.result.wakes.now cs room.step.changed.items c.args.time) (sym c.process_rows-rows.ensures.codes) run2 in
     let at1 = subst (λ fs. AtStep st points (settle_start st (clocked_run st)) state.store room.step.values (state_of room.step.sets) fs state.notes.marks) (sym c.as_mut_slice.ensures.value) at in
-    subst (λ fs. AtStep st points (all_run st) c.run_all.new.store c.run_all.new.values (state_of room.step.sets) fs c.run_all.new.notes.marks) (sym back) (c.run_all.ensures.step st run3 at1)
+    subst (λ fs. AtStep st points (all_run st) c.run_all.new.store c.run_all.new.values (state_of room.step.sets) fs c.run_all.new.notes.marks) (sym back) (c.run_all.ensures.step st run3 changes at1)

@@ -34,7 +34,7 @@ returns-clause-fits c =
       ranked = subst (λ n. AreRanksOf (processes.order.items ++ processes.last.items) n step.order) (sym size) is.ranked;
       clocked = subst (λ n. AreRanksOf processes.clocked.items n step.clocked) (sym size) is.clocked;
       written = is.written;
-      rows = c.rows_law.ensures d (has_code codes) order processes.watched step.targets step.written c.in_ok-wakes.wakes c.requires.lawful c.requires.memories tabled (λ p. refl) (c.in_ok-processes.ensures.count ∙ sym size) is.targets is.written c.in_ok-wakes.ensures;
+      rows = c.rows_law.ensures d (has_code codes) order processes.watched step.targets step.written c.in_ok-wakes.wakes c.requires.lawful tabled (λ p. refl) (c.in_ok-processes.ensures.count ∙ sym size) is.targets is.written c.in_ok-wakes.ensures;
       wakes = c.in_ok-wakes.ensures;
       checks = subst (λ cs. AreCheckRows cs step.targets c.in_ok-checks.checks) c.as_slice.ensures.value c.in_ok-checks.ensures;
     })

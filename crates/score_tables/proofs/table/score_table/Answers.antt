@@ -5,10 +5,11 @@ use Rattle.score_tables.proofs.table.score_table.Goals as goal
 pub collect-requires-clause-things : goal.collect-requires-clause-things
 collect-requires-clause-things c =
     let (h, dump, small, scored) = c.requires.scored in
-    are_of_design (design_view c.args.design.now) h dump c.args.points.now c.args.marks.now.verdicts c.requires.lawful c.requires.points small scored
+    let (ms, all) = c.requires.points in
+    are_of_design (design_view c.args.design.now) h dump ms c.args.points.now c.args.marks.now.verdicts c.requires.lawful all small scored
 
 pub returns : goal.returns
-returns c = λ h dump small scored.
+returns c = λ h dump ms all small scored.
     both_say c.collect.result
-    (λ db is shown. score_is (design_view c.args.design.now) h dump c.args.points.now c.args.marks.now.verdicts c.requires.lawful c.requires.points small scored c.args.sources db c.requires.written c.requires.rooted is shown)
+    (λ db is shown. score_is (design_view c.args.design.now) h dump ms c.args.points.now c.args.marks.now.verdicts c.requires.lawful all small scored c.args.sources db c.requires.named c.requires.written c.requires.rooted is shown)
     c.collect.ensures.table c.collect.ensures.verdicts

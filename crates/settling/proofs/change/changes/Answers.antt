@@ -1,23 +1,31 @@
-use Rattle.std.proofs.Common.{◌∙◌, ap, length, sym, ◌≡◌, false, true}
-use Rattle.known_state.specs.Partly.{Partly}
+use Rattle.std.proofs.Common.{◌∙◌, ◌≡◌, ◌+◌, ◌<◌, ◌≤◌, ap, arith, false, length, not, sym, true}
+use Rattle.design_model.specs.View.{design_view}
 use Rattle.early_sets.specs.Has.{is_in}
 use Rattle.early_sets.specs.WakeState.{state_of}
 use Rattle.early_sets.proofs.Membership.{is_in_is}
-use Rattle.settled_targets.proofs.step_values.Forgets.{known_width}
-use Rattle.settling.proofs.Changing.{moved, unmoved}
+use Rattle.settling.proofs.Words.{changed_words, signal_below, memory_above, unmoved}
 use Rattle.settling.proofs.change.changes.Goals as goal
 
-pub differing-requires : goal.differing-requires
-differing-requires c =
-    let h = c.requires.known.2 in
-    ap (λ (q : Partly). length q.bits) c.before-old.ensures ∙ c.requires.fits.before.width c.args.wake.now.thing c.requires.signal ∙ sym (known_width c.requires.known.0 c.requires.known.1 c.args.store.now c.args.wake.now.thing c.known_signal-now.result h (c.known_signal-now.ensures c.requires.known.0 c.requires.known.1 h))
+pub has_changed-requires-clause-first : goal.has_changed-requires-clause-first
+has_changed-requires-clause-first c = memory_above (design_view c.args.store.now.design.now) c.args.words.now c.args.wake.now.thing c.requires.memories (sym c.is_memory.ensures ∙ c.if-is_memory.true)
+
+pub has_changed-requires-clause-within : goal.has_changed-requires-clause-within
+has_changed-requires-clause-within c = let first = c.requires.memories.first in let count = c.requires.memories.count in let below = c.requires.watched in omega (arith, first, count, below)
+
+pub signal_changes-requires-clause-signal : goal.signal_changes-requires-clause-signal
+signal_changes-requires-clause-signal c = signal_below (design_view c.args.store.now.design.now) c.args.words.now c.args.wake.now.thing c.requires.memories (sym c.is_memory.ensures ∙ c.if-is_memory.false)
 
 pub returns-then-not-may_move : goal.returns-then-not-may_move
-returns-then-not-may_move c = λ st w p state wake.
+returns-then-not-may_move c = λ st w p state words writes wake watched.
     let none : is_in (state_of c.args.sets.now).moves c.args.wake.now.thing ≡ false = sym (is_in_is (state_of c.args.sets.now).moves c.args.wake.now.thing c.may_move.result c.may_move.ensures) ∙ c.if-not-may_move.true in
-    sym (unmoved st w p c.args.store.now c.args.values.now (state_of c.args.sets.now) c.args.wake.now state wake c.requires.signal none).0
+    sym ((unmoved st w p c.args.wake.now.thing (state.moves c.args.wake.now.thing ∙ none) state.still).0)
+
+pub returns-then-is_memory : goal.returns-then-is_memory
+returns-then-is_memory c = λ st w p state words writes wake watched.
+    let some : is_in (state_of c.args.sets.now).moves c.args.wake.now.thing ≡ true = sym (is_in_is (state_of c.args.sets.now).moves c.args.wake.now.thing c.may_move.result c.may_move.ensures) ∙ c.if-not-may_move.false in
+    (c.has_changed.ensures ∙ changed_words st w p c.args.words.now c.args.wake.now.thing (state.moves c.args.wake.now.thing ∙ some) c.args.store.now.design.now state.values.knows.design c.requires.memories c.requires.watched (sym c.is_memory.ensures ∙ c.if-is_memory.true) writes words watched)
 
 pub returns : goal.returns
-returns c = λ st w p state wake.
+returns c = λ st w p state words writes wake watched.
     let some : is_in (state_of c.args.sets.now).moves c.args.wake.now.thing ≡ true = sym (is_in_is (state_of c.args.sets.now).moves c.args.wake.now.thing c.may_move.result c.may_move.ensures) ∙ c.if-not-may_move.false in
-    moved st w p c.args.store.now c.args.values.now (state_of c.args.sets.now) c.args.wake.now state wake c.requires.signal c.before-old.result c.known_signal-now.result c.differing.result some c.before-old.ensures c.known_signal-now.ensures c.differing.ensures
+    c.signal_changes.ensures st w p (state_of c.args.sets.now) state wake some

@@ -35,12 +35,14 @@ loop-process-init g c =
       ready = (c.requires.ready.0, subst (λ xs. CanRunAll c.requires.ready.0 xs c.args.store.now) (sym (ap (λ xs. all ++ xs) none ∙ append-nil all)) c.requires.ready.1);
       pieces = refl;
       points = refl;
+      first = refl;
+      ranges = refl;
       marks = c.requires.marks;
       steps = let b = ap length ran in omega (arith, b);
       chosen = (λ p. [], chosen_start w c.args.given.now.habit all);
       step = λ st u is at. record {
         working = u;
-        at = subst (λ xs. AtClocked st c.args.notes.now.points.now u xs c.args.store.now c.args.notes.now.marks) (sym (ap (λ xs. all ++ xs) none ∙ append-nil all)) at;
+        at = subst (λ xs. AtClocked st c.args.notes.now.points.now u xs c.args.store.now c.args.notes.now) (sym (ap (λ xs. all ++ xs) none ∙ append-nil all)) at;
         leads = refl;
       };
     }
@@ -81,6 +83,8 @@ loop-process-preserved-in-Some-trigger g c =
       ready = (old.ready.0, after.ready old.ready.0 (rest ++ later) (subst (λ ps. CanRunAll old.ready.0 (ps ++ later) c.loop-process.store) listed old.ready.1));
       pieces = after.pieces ∙ old.pieces;
       points = after.points ∙ old.points;
+      first = after.first ∙ old.first;
+      ranges = after.ranges ∙ old.ranges;
       marks = after.marks;
       steps = let steps = old.steps in let more = ap length pushed in let size = length-append c.loop-process.ran.items (p ∷ []) in let one = after.steps in omega (arith, steps, more, size, one);
       chosen = (
@@ -91,9 +95,9 @@ loop-process-preserved-in-Some-trigger g c =
       step = λ st start is at.
           let given = c.args.given.now in
           let ps = c.args.notes.now.points.now in
-          cleaned_run st ps later all start w v t given.habit given.codes.now given.values.now given.time is old.rest p rest c.loop-process.notes.points.now old.points has c.loop-process.store c.run_clean.new.store c.loop-process.notes.marks c.run_clean.new.notes.marks
+          cleaned_run st ps later all start w v t given.habit given.codes.now given.values.now given.time is old.rest p rest c.loop-process.notes.points.now old.points has c.loop-process.store c.run_clean.new.store c.loop-process.notes c.run_clean.new.notes
           (λ x a b by dumped early here. after.step st x (rest ++ later) a b by dumped early here)
-          (subst (λ qs. HasCleaned st ps qs later all start c.loop-process.store c.loop-process.notes.marks) listed (old.step st start is at));
+          (subst (λ qs. HasCleaned st ps qs later all start c.loop-process.store c.loop-process.notes) listed (old.step st start is at));
     }
 
 pub loop-process-preserved : goal.loop-process-preserved
@@ -129,15 +133,17 @@ loop-process-preserved g c =
       ready = (old.ready.0, subst (λ xs. CanRunAll old.ready.0 (rest ++ xs) c.loop-process.store) (sym pushed) (all_put_off old.ready.0 p rest later c.loop-process.store (subst (λ ps. CanRunAll old.ready.0 (ps ++ later) c.loop-process.store) listed old.ready.1)));
       pieces = old.pieces;
       points = old.points;
+      first = old.first;
+      ranges = old.ranges;
       marks = old.marks;
       steps = old.steps;
       chosen = (old.chosen.0, chosen_past w c.args.given.now.habit all p rest old.chosen.0 none (subst (λ ps. AreChosenBut w c.args.given.now.habit all ps old.chosen.0) listed old.chosen.1));
       step = λ st start is at.
           let given = c.args.given.now in
           let ps = c.args.notes.now.points.now in
-          subst (λ xs. HasCleaned st ps rest xs all start c.loop-process.store c.loop-process.notes.marks) (sym pushed)
-          (cleaned_off st ps later all start p rest c.loop-process.store c.loop-process.notes.marks (step_trigger st ps w given.habit given.codes.now given.values.now given.time is p ∙ none)
-          (subst (λ qs. HasCleaned st ps qs later all start c.loop-process.store c.loop-process.notes.marks) listed (old.step st start is at)));
+          subst (λ xs. HasCleaned st ps rest xs all start c.loop-process.store c.loop-process.notes) (sym pushed)
+          (cleaned_off st ps later all start p rest c.loop-process.store c.loop-process.notes (step_trigger st ps w given.habit given.codes.now given.values.now given.time is p ∙ none)
+          (subst (λ qs. HasCleaned st ps qs later all start c.loop-process.store c.loop-process.notes) listed (old.step st start is at)));
     }
 
 pub trigger-requires : goal.trigger-requires
@@ -188,5 +194,5 @@ returns-clause-chosen g c =
 pub returns-clause-step : goal.returns-clause-step
 returns-clause-step g c = λ st start is at.
     let all = map (λ (q : ℕ × ℕ). q.0) c.args.list.now.pairs in
-    cleaned_end st c.args.notes.now.points.now c.loop-process.later.items all start (map (λ (q : ℕ × ℕ). q.0) c.loop-process.list.pairs) c.loop-process.store c.loop-process.notes.marks (ap (map (λ (q : ℕ × ℕ). q.0)) c.in_default.ensures.pairs.0)
+    cleaned_end st c.args.notes.now.points.now c.loop-process.later.items all start (map (λ (q : ℕ × ℕ). q.0) c.loop-process.list.pairs) c.loop-process.store c.loop-process.notes (ap (map (λ (q : ℕ × ℕ). q.0)) c.in_default.ensures.pairs.0)
     (c.loop-process.invariant.step st start is at)

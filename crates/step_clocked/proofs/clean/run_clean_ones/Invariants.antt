@@ -31,12 +31,14 @@ invariant-loop-process g l =
       ready : (d : Design) × CanRunAll d (map (λ (q : ℕ × ℕ). q.0) l.list.pairs ++ l.later.items) l.store;
       pieces : l.pieces ≡ l.fn.pieces;
       points : l.notes.points.now ≡ l.fn.notes.points.now;
+      first : l.notes.written.first ≡ l.fn.notes.written.first;
+      ranges : l.notes.written.ranges ≡ l.fn.notes.written.ranges;
       marks : AreMarksOf l.notes.points.now l.notes.marks;
       steps : l.steps ≡ l.fn.steps + length l.ran.items;
       chosen : (early : ℕ → List ℕ) × AreChosenBut (state_of l.fn.sets) l.given.habit (map (λ (q : ℕ × ℕ). q.0) l.fn.list.pairs) (map (λ (q : ℕ × ℕ). q.0) l.list.pairs) early;
       step : (st : Closing) (w : Working) → IsClockedStep st l.fn.notes.points.now (state_of l.fn.sets) l.given.habit l.given.codes.now l.given.values.now l.given.time
-          → AtClocked st l.fn.notes.points.now w (map (λ (q : ℕ × ℕ). q.0) l.fn.list.pairs) l.fn.store l.fn.notes.marks
-          → HasCleaned st l.fn.notes.points.now (map (λ (q : ℕ × ℕ). q.0) l.list.pairs) l.later.items (map (λ (q : ℕ × ℕ). q.0) l.fn.list.pairs) w l.store l.notes.marks;
+          → AtClocked st l.fn.notes.points.now w (map (λ (q : ℕ × ℕ). q.0) l.fn.list.pairs) l.fn.store l.fn.notes
+          → HasCleaned st l.fn.notes.points.now (map (λ (q : ℕ × ℕ). q.0) l.list.pairs) l.later.items (map (λ (q : ℕ × ℕ). q.0) l.fn.list.pairs) w l.store l.notes;
     }
 
 abbrev pub decreases-loop-process : goal.decreases-loop-process

@@ -1,4 +1,4 @@
-use Rattle.std.proofs.Common.{◌∙◌, [], ℕ, ap, map, subst, sym}
+use Rattle.std.proofs.Common.{◌∙◌, [], ℕ, ap, map, refl, subst, sym}
 use Rattle.design_model.specs.Design.{In}
 use Rattle.design_model.specs.Lawful.{IsLawfulDesign}
 use Rattle.design_model.specs.View.{design_view}
@@ -58,10 +58,11 @@ pub returns-clause-knows : goal.returns-clause-knows
 returns-clause-knows g c = λ st is of h verdicts.
     let listed = map (λ (q : ℕ × ℕ). q.0) c.args.list.now.pairs in
     let inside = listed_inside c.args.given.now.design.now st.design (sym c.requires.same ∙ h.design) c.args.list.now.pairs c.requires.below in
-    let at : AtClocked st c.args.notes.now.points.now (opened st) listed c.begin_runs.new.store c.args.notes.now.marks = record {
+    let at : AtClocked st c.args.notes.now.points.now (opened st) listed c.begin_runs.new.store c.args.notes.now = record {
       runs = c.begin_runs.ensures.ready st.design st.start.kept listed (once_distinct listed c.fitting.ensures.once) inside h;
       points = c.requires.marks;
       marks = verdicts;
+      unwritten = λ m i cell mem among follows none here. (refl, λ k. refl);
     } in
     let end = c.run_in_turn.ensures.step st is of at in
     subst (λ k. Knows st.design k c.make_updates.new.store) (sym (c.queue_law.ensures (clocked_run st).kept (clocked_run st).queue))
@@ -71,9 +72,23 @@ pub returns-clause-verdicts : goal.returns-clause-verdicts
 returns-clause-verdicts g c = λ st is of h verdicts.
     let listed = map (λ (q : ℕ × ℕ). q.0) c.args.list.now.pairs in
     let inside = listed_inside c.args.given.now.design.now st.design (sym c.requires.same ∙ h.design) c.args.list.now.pairs c.requires.below in
-    let at : AtClocked st c.args.notes.now.points.now (opened st) listed c.begin_runs.new.store c.args.notes.now.marks = record {
+    let at : AtClocked st c.args.notes.now.points.now (opened st) listed c.begin_runs.new.store c.args.notes.now = record {
       runs = c.begin_runs.ensures.ready st.design st.start.kept listed (once_distinct listed c.fitting.ensures.once) inside h;
       points = c.requires.marks;
       marks = verdicts;
+      unwritten = λ m i cell mem among follows none here. (refl, λ k. refl);
     } in
     (c.run_in_turn.ensures.step st is of at).marks
+
+pub returns-clause-unwritten : goal.returns-clause-unwritten
+returns-clause-unwritten g c = λ st is of h verdicts m i cell mem among follows none here.
+    let listed = map (λ (q : ℕ × ℕ). q.0) c.args.list.now.pairs in
+    let inside = listed_inside c.args.given.now.design.now st.design (sym c.requires.same ∙ h.design) c.args.list.now.pairs c.requires.below in
+    let at : AtClocked st c.args.notes.now.points.now (opened st) listed c.begin_runs.new.store c.args.notes.now = record {
+      runs = c.begin_runs.ensures.ready st.design st.start.kept listed (once_distinct listed c.fitting.ensures.once) inside h;
+      points = c.requires.marks;
+      marks = verdicts;
+      unwritten = λ m i cell mem among follows none here. (refl, λ k. refl);
+    } in
+    let left = (c.run_in_turn.ensures.step st is of at).unwritten m i cell mem among follows none here in
+    left.1 (clocked_run st).kept ∙ left.0

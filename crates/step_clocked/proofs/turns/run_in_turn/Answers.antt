@@ -53,10 +53,10 @@ returns-clause-step g c = λ st is of at.
     let cleaned : Working = run_all_clean st listed (opened st) in
     let rest = c.as_slice.ensures in
     let half = c.run_clean_ones.ensures.step st (opened st) is at in
-    let begun = subst (λ os. AtClocked st os cleaned c.as_slice.result.now c.run_clean_ones.new.store c.run_clean_ones.new.notes.marks) (sym points) (subst (λ xs. AtClocked st ps cleaned xs c.run_clean_ones.new.store c.run_clean_ones.new.notes.marks) (sym rest) half) in
+    let begun = subst (λ os. AtClocked st os cleaned c.as_slice.result.now c.run_clean_ones.new.store c.run_clean_ones.new.notes) (sym points) (subst (λ xs. AtClocked st ps cleaned xs c.run_clean_ones.new.store c.run_clean_ones.new.notes) (sym rest) half) in
     let end = c.run_weak_ones.ensures.step st cleaned (subst AreApart (sym points) is.apart) (subst AreOnce (sym points) is.once) is.by
     (λ p. step_trigger st ps w given.habit given.codes.now given.values.now given.time is p ∙ sym (trigger_same w v c.run_clean_ones.ensures.rest p))
     (λ p. step_waker st ps w given.habit given.codes.now given.values.now given.time is p ∙ sym (waker_same w v c.run_clean_ones.ensures.rest p)) begun in
     let whole = weak_rest st ps w given.habit given.codes.now given.values.now given.time is listed c.as_slice.result.now of (rest ∙ c.run_clean_ones.ensures.later) in
-    subst (λ (u : Working). AtClocked st ps u [] c.run_weak_ones.new.store c.run_weak_ones.new.notes.marks) whole
-    (subst (λ os. AtClocked st os (run_all_weak st c.as_slice.result.now cleaned) [] c.run_weak_ones.new.store c.run_weak_ones.new.notes.marks) points end)
+    subst (λ (u : Working). AtClocked st ps u [] c.run_weak_ones.new.store c.run_weak_ones.new.notes) whole
+    (subst (λ os. AtClocked st os (run_all_weak st c.as_slice.result.now cleaned) [] c.run_weak_ones.new.store c.run_weak_ones.new.notes) points end)

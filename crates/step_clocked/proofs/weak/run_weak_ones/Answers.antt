@@ -21,6 +21,8 @@ loop-process-init g c = record {
   ready = c.requires.ready;
   pieces = refl;
   points = refl;
+  first = refl;
+  ranges = refl;
   marks = c.requires.marks;
   steps = omega arith;
   step = λ st start apart once by triggers wakers at. record { working = start; at = at; leads = refl };
@@ -62,13 +64,15 @@ loop-process-preserved g c =
       ready = (old.ready.0, after.ready old.ready.0 (drop (i + 1) xs) (subst (λ ys. CanRunAll old.ready.0 ys c.loop-process.store) left old.ready.1));
       pieces = after.pieces ∙ old.pieces;
       points = after.points ∙ old.points;
+      first = after.first ∙ old.first;
+      ranges = after.ranges ∙ old.ranges;
       marks = after.marks;
       steps = let steps = old.steps in let more = ap length pushed in let size = length-append c.loop-process.ran.items (p ∷ []) in let one = after.steps in omega (arith, steps, more, size, one);
       step = λ st start apart once by triggers wakers at.
           weakened_run st c.args.notes.now.points.now xs start c.args.given.now.time p s (drop (i + 1) xs) c.loop-process.notes.points.now old.points apart once by
-          (triggers p ∙ c.requires.unclean p (next_in xs i c.loop-process-test.true)) (wakers p ∙ some) c.loop-process.store c.run_weak.new.store c.loop-process.notes.marks c.run_weak.new.notes.marks
+          (triggers p ∙ c.requires.unclean p (next_in xs i c.loop-process-test.true)) (wakers p ∙ some) c.loop-process.store c.run_weak.new.store c.loop-process.notes c.run_weak.new.notes
           (λ x a b t here. after.step st x (drop (i + 1) xs) a b t here)
-          (subst (λ ys. HasWeakened st c.args.notes.now.points.now ys xs start c.loop-process.store c.loop-process.notes.marks) left (old.step st start apart once by triggers wakers at));
+          (subst (λ ys. HasWeakened st c.args.notes.now.points.now ys xs start c.loop-process.store c.loop-process.notes) left (old.step st start apart once by triggers wakers at));
     }
 
 pub loop-process-preserved-in_default : goal.loop-process-preserved-in_default
@@ -90,12 +94,14 @@ loop-process-preserved-in_default g c =
       ready = (old.ready.0, all_left_out old.ready.0 p (drop (i + 1) xs) c.loop-process.store (subst (λ ys. CanRunAll old.ready.0 ys c.loop-process.store) left old.ready.1));
       pieces = old.pieces;
       points = old.points;
+      first = old.first;
+      ranges = old.ranges;
       marks = old.marks;
       steps = old.steps;
       step = λ st start apart once by triggers wakers at.
-          weakened_past st c.args.notes.now.points.now xs start p (drop (i + 1) xs) c.loop-process.store c.loop-process.notes.marks
+          weakened_past st c.args.notes.now.points.now xs start p (drop (i + 1) xs) c.loop-process.store c.loop-process.notes
           (triggers p ∙ c.requires.unclean p (next_in xs i c.loop-process-test.true)) (wakers p ∙ none)
-          (subst (λ ys. HasWeakened st c.args.notes.now.points.now ys xs start c.loop-process.store c.loop-process.notes.marks) left (old.step st start apart once by triggers wakers at));
+          (subst (λ ys. HasWeakened st c.args.notes.now.points.now ys xs start c.loop-process.store c.loop-process.notes) left (old.step st start apart once by triggers wakers at));
     }
 
 pub returns-clause-ran : goal.returns-clause-ran
@@ -109,5 +115,5 @@ returns-clause-ready g c =
 
 pub returns-clause-step : goal.returns-clause-step
 returns-clause-step g c = λ st start apart once by triggers wakers at.
-    weakened_end st c.args.notes.now.points.now c.args.later.now start (drop c.loop-process.process-index c.args.later.now) c.loop-process.store c.loop-process.notes.marks (drop_all c.loop-process.process-index c.args.later.now c.loop-process-test.false)
+    weakened_end st c.args.notes.now.points.now c.args.later.now start (drop c.loop-process.process-index c.args.later.now) c.loop-process.store c.loop-process.notes (drop_all c.loop-process.process-index c.args.later.now c.loop-process-test.false)
     (c.loop-process.invariant.step st start apart once by triggers wakers at)

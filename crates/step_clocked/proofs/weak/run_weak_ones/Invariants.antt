@@ -24,10 +24,12 @@ invariant-loop-process g l =
       ready : (d : Design) × CanRunAll d (drop l.process-index l.later) l.store;
       pieces : l.pieces ≡ l.fn.pieces;
       points : l.notes.points.now ≡ l.fn.notes.points.now;
+      first : l.notes.written.first ≡ l.fn.notes.written.first;
+      ranges : l.notes.written.ranges ≡ l.fn.notes.written.ranges;
       marks : AreMarksOf l.notes.points.now l.notes.marks;
       steps : l.steps + length l.fn.ran.items ≡ l.fn.steps + length l.ran.items;
       step : (st : Closing) (w : Working) → AreApart l.fn.notes.points.now → AreOnce l.fn.notes.points.now → IsRunBy st l.given.time
           → ((p : ℕ) → st.sets.trigger p ≡ trigger_of (state_of l.sets) p) → ((p : ℕ) → st.sets.wakes p ≡ waker_of (state_of l.sets) p)
-          → AtClocked st l.fn.notes.points.now w l.later l.fn.store l.fn.notes.marks
-          → HasWeakened st l.fn.notes.points.now (drop l.process-index l.later) l.later w l.store l.notes.marks;
+          → AtClocked st l.fn.notes.points.now w l.later l.fn.store l.fn.notes
+          → HasWeakened st l.fn.notes.points.now (drop l.process-index l.later) l.later w l.store l.notes;
     }

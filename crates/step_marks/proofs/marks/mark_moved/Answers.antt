@@ -8,7 +8,7 @@ pub loop-thing-init : goal.loop-thing-init
 loop-thing-init c = (refl, λ ps m. m, λ st ps over. (refl, record { marks = over.marks; seen = over.seen }))
 
 pub mark_thing-requires-clause-listed : goal.mark_thing-requires-clause-listed
-mark_thing-requires-clause-listed c = (c.requires.listed.0, c.requires.listed.1, c.loop-thing.invariant.1 c.requires.listed.0 c.requires.listed.2)
+mark_thing-requires-clause-listed c = (c.requires.listed.0, c.requires.listed.1, c.requires.listed.2, c.loop-thing.invariant.1 c.requires.listed.1 c.requires.listed.3)
 
 pub loop-thing-preserved : goal.loop-thing-preserved
 loop-thing-preserved c =

@@ -14,10 +14,10 @@ pub mark-requires-clause-indexed : goal.mark-requires-clause-indexed
 mark-requires-clause-indexed c = indexed (design_view c.args.design.now) c.args.thing c.in-Some.shape.now c.requires.lawful c.in-Some.ensures.value c.bound_law.ensures
 
 pub mark-requires-clause-width : goal.mark-requires-clause-width
-mark-requires-clause-width c = (marks_of (design_view c.args.design.now) c.args.thing c.in-Some.shape.now c.requires.lawful c.in-Some.ensures.value c.requires.listed.0 c.requires.listed.1).width
+mark-requires-clause-width c = (marks_of (design_view c.args.design.now) c.args.thing c.in-Some.shape.now c.requires.lawful c.in-Some.ensures.value c.requires.listed.0 c.requires.listed.1 c.requires.listed.2).width
 
 pub mark-requires-clause-plain : goal.mark-requires-clause-plain
-mark-requires-clause-plain c = (marks_of (design_view c.args.design.now) c.args.thing c.in-Some.shape.now c.requires.lawful c.in-Some.ensures.value c.requires.listed.0 c.requires.listed.1).plain
+mark-requires-clause-plain c = (marks_of (design_view c.args.design.now) c.args.thing c.in-Some.shape.now c.requires.lawful c.in-Some.ensures.value c.requires.listed.0 c.requires.listed.1 c.requires.listed.2).plain
 
 pub mark-requires-clause-before : goal.mark-requires-clause-before
 mark-requires-clause-before c = old_width (design_view c.args.design.now) c.args.thing c.in-Some.shape.now c.requires.lawful c.in-Some.ensures.value c.args.values.now c.before-before.result c.requires.fits c.before-before.ensures
@@ -30,7 +30,7 @@ mark-requires-clause-after c =
 pub mark-requires-clause-listed : goal.mark-requires-clause-listed
 mark-requires-clause-listed c =
     let list = c.requires.listed in
-    (list.0, list.2, (marks_of (design_view c.args.design.now) c.args.thing c.in-Some.shape.now c.requires.lawful c.in-Some.ensures.value list.0 list.1).listed)
+    (list.1, list.3, (marks_of (design_view c.args.design.now) c.args.thing c.in-Some.shape.now c.requires.lawful c.in-Some.ensures.value list.0 list.1 list.2).listed)
 
 pub returns-clause-toggles : goal.returns-clause-toggles
 returns-clause-toggles c = λ st ps over.

@@ -26,10 +26,12 @@ loop-process-init g c =
       room = refl;
       pieces = refl;
       points = refl;
+      first = refl;
+      ranges = refl;
       marks = c.requires.marks;
       steps = refl {a = c.args.steps.now + length c.args.list.now.pairs};
-      step = λ st run at. led_start st c.args.notes.now.points.now c.args.order.now c.args.ordered (map (λ (q : ℕ × ℕ). q.0) c.args.list.now.pairs) c.args.rows.now.wakes.now c.args.rows.now.codes.now c.args.found.now.changed.now.items c.args.found.now.time run
-          c.args.store.now c.args.values.now (state_of c.args.found.now.sets.now) c.args.acted.now c.args.notes.now.marks at;
+      step = λ st run words at. led_start st c.args.notes.now.points.now c.args.order.now c.args.ordered (map (λ (q : ℕ × ℕ). q.0) c.args.list.now.pairs) c.args.rows.now.wakes.now c.args.rows.now.codes.now c.args.found.now.changed.now.items c.args.found.now.time run
+          c.args.store.now c.args.values.now c.args.found.now.words.now (state_of c.args.found.now.sets.now) c.args.acted.now c.args.notes.now.marks words at;
     }
 
 pub run_next-requires-clause-settles : goal.run_next-requires-clause-settles
@@ -68,12 +70,14 @@ loop-process-preserved g c =
       room = after.room ∙ old.room;
       pieces = after.pieces ∙ old.pieces;
       points = after.points ∙ old.points;
+      first = after.first ∙ old.first;
+      ranges = after.ranges ∙ old.ranges;
       marks = after.marks;
       steps = let steps = old.steps in let more = after.steps in let less = ap length next.1 in omega (arith, steps, more, less);
-      step = λ st run at.
+      step = λ st run words at.
           led_more st c.args.notes.now.points.now c.args.order.now c.args.ordered (map (λ (q : ℕ × ℕ). q.0) c.args.list.now.pairs) c.args.rows.now.wakes.now c.args.rows.now.codes.now c.args.found.now.changed.now.items c.args.found.now.time run
           c.loop-process.ran.items p rest all c.loop-process.notes.points.now old.points c.is_ordered-is_kept.result c.is_ordered-is_kept.ensures
-          c.loop-process.store c.run_next.new.store c.loop-process.values c.run_next.new.values (state_of c.args.found.now.sets.now) c.loop-process.acted c.run_next.new.acted c.loop-process.notes.marks c.run_next.new.notes.marks
+          c.loop-process.store c.run_next.new.store c.loop-process.values c.run_next.new.values c.args.found.now.words.now (state_of c.args.found.now.sets.now) c.loop-process.acted c.run_next.new.acted c.loop-process.notes.marks c.run_next.new.notes.marks
           (λ w apart once is touched here. after.step st w apart once is touched here)
-          (subst (λ ps. HasLed st c.args.notes.now.points.now (is_ordered c.args.order.now c.args.ordered) ps c.loop-process.store c.loop-process.values (state_of c.args.found.now.sets.now) c.loop-process.acted c.loop-process.notes.marks) listed (old.step st run at));
+          (subst (λ ps. HasLed st c.args.notes.now.points.now (is_ordered c.args.order.now c.args.ordered) ps c.loop-process.store c.loop-process.values c.args.found.now.words.now (state_of c.args.found.now.sets.now) c.loop-process.acted c.loop-process.notes.marks) listed (old.step st run words at));
     }

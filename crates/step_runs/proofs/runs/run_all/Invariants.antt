@@ -9,6 +9,7 @@ use Rattle.settling.specs.replay_model.Step.{Closing, clocked_run, settle_start}
 use Rattle.settling.specs.step_parts.AtStep.{AtStep}
 use Rattle.settling.specs.step_values.Vectors.{FitsSignals}
 use Rattle.settling.specs.store_knowledge.Knows.{Knows}
+use Rattle.settling.specs.Wakes.{HasWordChanges}
 use Rattle.step_runs.specs.Runs.{IsRunOf, is_ordered}
 use Rattle.step_runs.proofs.Listed.{HasLed}
 use Rattle.step_runs.proofs.runs.run_all.Given as goal
@@ -30,11 +31,14 @@ invariant-loop-process g l =
       room : length l.scratch.saved ≡ length l.fn.scratch.saved;
       pieces : l.scratch.pieces ≡ l.fn.scratch.pieces;
       points : l.notes.points.now ≡ l.fn.notes.points.now;
+      first : l.notes.written.first ≡ l.fn.notes.written.first;
+      ranges : l.notes.written.ranges ≡ l.fn.notes.written.ranges;
       marks : AreMarksOf l.notes.points.now l.notes.marks;
       steps : l.steps + length l.list.pairs ≡ l.fn.steps + length l.fn.list.pairs;
       step : (st : Closing) → IsRunOf st l.fn.notes.points.now l.order l.ordered (map (λ (q : ℕ × ℕ). q.0) l.fn.list.pairs) l.rows.wakes.now l.rows.codes.now l.found.changed.now.items l.found.time
+          → HasWordChanges st (settle_start st (clocked_run st)).kept l.found.words.now
           → AtStep st l.fn.notes.points.now (settle_start st (clocked_run st)) l.fn.store l.fn.values (state_of l.found.sets.now) l.fn.acted l.fn.notes.marks
-          → HasLed st l.fn.notes.points.now (is_ordered l.order l.ordered) (map (λ (q : ℕ × ℕ). q.0) l.list.pairs) l.store l.values (state_of l.found.sets.now) l.acted l.notes.marks;
+          → HasLed st l.fn.notes.points.now (is_ordered l.order l.ordered) (map (λ (q : ℕ × ℕ). q.0) l.list.pairs) l.store l.values l.found.words.now (state_of l.found.sets.now) l.acted l.notes.marks;
     }
 
 abbrev pub decreases-loop-process : goal.decreases-loop-process

@@ -2,6 +2,7 @@ use Rattle.std.proofs.Common.{length, refl, sym, ap, subst, ◌∙◌}
 use Rattle.bound_codes.specs.Codes.{AreWanted}
 use Rattle.code_values.specs.Values.{value_of}
 use Rattle.replay_core.specs.Parts.{IsNew, given_of}
+use Rattle.replay_core.specs.wake_laws.Laws.{habit_of}
 use Rattle.shown_dumps.proofs.Dumps.{codes_long}
 use Rattle.shown_dumps.specs.Shown.{code_at}
 use Rattle.signal_binding.specs.Binding.{codes_of}
@@ -25,7 +26,7 @@ returns-clause-followed c =
         ready = c.in_ok-replay.ensures.ready;
         bindable = c.in_ok-binding.ensures.bindable;
         design_is = c.in_ok-replay.ensures.design;
-        habit_is = c.in_ok-replay.ensures.habit;
+        habit_is = ap habit_of c.in_ok-replay.ensures.habit;
         points_are = c.in_ok-replay.ensures.points;
         codes = c.in_ok-replay.ensures.codes ∙ codes;
         within = λ code coded. c.in_ok-replay.ensures.within coded.0 code (ap (λ cs. code_at cs coded.0) codes ∙ coded.1);

@@ -6,7 +6,7 @@ use Rattle.replay_core.proofs.replay.Replay.finish.Goals as goal
 pub returns-clause-followed : goal.returns-clause-followed
 returns-clause-followed c = λ dump t followed last.
     let x = c.args.self in
-    let v = ends (subject_of (made_of x) dump) t followed.replay (parts_of x) last followed.follows in
+    let v = ends (subject_of (made_of x) dump) t followed.replay (parts_of x).parts last followed.follows.parts in
     record {
       points = v.marks;
       replay = followed.replay;

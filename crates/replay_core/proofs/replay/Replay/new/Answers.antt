@@ -1,9 +1,14 @@
-use Rattle.std.proofs.Common.{◌≡◌, ◌∙◌, ◌<◌, ℕ, ap, length, map, Option, None, Some, subst, sym, arith}
+use Rattle.std.proofs.Common.{◌≡◌, ◌∙◌, ◌+◌, ◌<◌, ℕ, true, ap, length, map, Option, None, Some, subst, sym, arith}
 use Rattle.std.specs.Prelude.{slice_index_or}
 use Rattle.std.proofs.lemmas.List.{length-map}
 use Rattle.design_model.specs.View.{design_view, process_view}
-use Rattle.replay_core.specs.Fits.{FitsRoom}
+use Rattle.design_model.specs.Design.{In}
+use Rattle.index_sets.specs.Rows.{row_at}
+use Rattle.written_words.specs.Written.{AreRanges, flag_at}
+use Rattle.replay_core.specs.Fits.{FitsRoom, IsUntouched}
+use Rattle.replay_core.specs.declared.tables.ReplayTables.{ReplayTables}
 use Rattle.replay_core.proofs.Parts.{count_is, new_ready, no_value}
+use Rattle.replay_core.proofs.Words.{new_followed}
 use Rattle.replay_core.proofs.replay.Replay.new.Goals as goal
 
 pub returns-clause-ready : goal.returns-clause-ready
@@ -14,8 +19,15 @@ returns-clause-ready c =
     let room = c.in_ok-room in
     let state = c.in_ok-state in
     let size : length (map process_view D.processes) ≡ length D.processes = length-map D.processes process_view in
-    let fits = subst (λ x. FitsRoom d x room.room.value) c.deref.ensures room.ensures.fits in
-    new_ready d c.args.points.now tables.tables.value room.room.value state.state c.past_codes-count.result c.requires.replayable tables.ensures.fits fits room.ensures.none room.ensures.none_clocked state.ensures.untouched state.ensures.values tables.ensures.count (state.ensures.acted ∙ sym size) state.ensures.seen state.ensures.points state.ensures.marks
+    let fits = subst (λ x. FitsRoom d x room.room.value) c.deref-2.ensures room.ensures.fits in
+    let flags = c.in_ok-followed.followed.items in
+    let ranges : AreRanges D.memories flags state.state.notes.written.ranges = subst (λ fs. AreRanges D.memories fs state.state.notes.written.ranges) c.as_slice-6.ensures.value state.ensures.ranges in
+    let words = room.ensures.words state.state.notes.written.ranges (subst (λ fs. AreRanges D.memories fs state.state.notes.written.ranges) (sym c.as_slice-5.ensures.value) ranges) in
+    let rows : length tables.tables.value.processes.watched ≡ length D.processes = sym tables.ensures.fits.wakes.count ∙ tables.ensures.fits.rows.wakes_count ∙ size in
+    let watched = new_followed d tables.tables.value state.state.notes.written room.room.value.words flags (length D.processes) state.ensures.first ranges words.0 rows
+    (subst (λ (x : ReplayTables). (p m : ℕ) → p < length D.processes → In (length D.signals + m) (row_at x.processes.watched p) → m < length D.memories → flag_at flags m ≡ true) c.deref.ensures c.in_ok-followed.ensures.each) in
+    let untouched : IsUntouched d c.args.points.now room.room.value state.state = record { knows = state.ensures.knows; words = words.1; acted = state.ensures.unacted; marks = state.ensures.verdicts; seen = state.ensures.unseen; told = state.ensures.told } in
+    new_ready d c.args.points.now tables.tables.value room.room.value state.state c.past_codes-count.result c.requires.replayable tables.ensures.fits fits room.ensures.none room.ensures.none_clocked untouched watched state.ensures.values tables.ensures.count (state.ensures.acted ∙ sym size) state.ensures.seen state.ensures.machines state.ensures.few_machines state.ensures.points state.ensures.marks
 
 pub returns-clause-within : goal.returns-clause-within
 returns-clause-within c = λ s code coded.

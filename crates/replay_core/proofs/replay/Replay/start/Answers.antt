@@ -3,13 +3,12 @@ use Rattle.std.proofs.lemmas.List.{length-map}
 use Rattle.design_model.specs.View.{design_view, process_view}
 use Rattle.early_sets.specs.declared.habit.Habit.{Habit}
 use Rattle.design_model.specs.Shows.{BoundDump}
-use Rattle.replay_follows.specs.Follows.{Follows}
 use Rattle.wake_laws.specs.Laws.{habit_of}
 use Rattle.replay_core.specs.Closing.{RefutesFirst, Starts}
 use Rattle.replay_core.specs.Faults.{IsContradiction, fault_at, phase_after}
-use Rattle.replay_core.specs.Fits.{FitsParts, FitsReplay, HaveValues, IsReplayable, signal_of}
+use Rattle.replay_core.specs.Fits.{FitsParts, FitsReplay, HaveValues, IsReplayable, IsUntouched, signal_of}
 use Rattle.replay_core.specs.Followed.{HasFollowed}
-use Rattle.replay_core.specs.Made.{IsDumpFor, Made, made_with, parts_with, subject_of}
+use Rattle.replay_core.specs.Made.{HasFollows, IsDumpFor, Made, made_with, parts_with, subject_of}
 use Rattle.replay_core.specs.Parts.{given_of, made_of}
 use Rattle.code_values.specs.Values.{lacks_value}
 use Rattle.dump_check.specs.declared.order.Difference.{Difference}
@@ -44,7 +43,7 @@ run_first_step-found-requires g c =
           (subst (λ r. FitsParts d points x.tables.value r x.state) (sym c.deref_mut.ensures.value) ready.parts);
       none = subst (λ (r : ReplayRoom). r.step.list.pairs ≡ []) (sym c.deref_mut.ensures.value) ready.none;
       none_clocked = subst (λ (r : ReplayRoom). r.step.clocked.pairs ≡ []) (sym c.deref_mut.ensures.value) ready.none_clocked;
-      untouched = ready.untouched new;
+      untouched = subst (λ r. IsUntouched d points r x.state) (sym c.deref_mut.ensures.value) (ready.untouched new);
       given = subst (λ (t : ReplayTables). HaveValues t.step.codes.items x.state.values.last) (sym c.deref-2.ensures) have;
     }
 
@@ -90,7 +89,7 @@ returns g c =
             dumped = subst (λ n. IsDumpFor n dump) (sym after) of;
             started = ap (λ o. phase_after o time) none;
             replay = b.0;
-            follows = subst (λ n. Follows (subject_of n dump) time b.0 (parts_with room state)) (sym after) b.1;
+            follows = subst (λ n. HasFollows (subject_of n dump) time b.0 (parts_with room state)) (sym after) b.1;
           }));
       refused = if_err c.end.result c.end.ensures.err (λ fault is. ap (λ (y : Replay). y.phase) e ∙ ap (λ o. phase_after o time) is.1 ∙ ap Refused (sym is.2));
       missing = λ s new is. absurd (no_missing s (subst (λ r. IfErr r (λ fault. (one : Difference) × (found ≡ Some one) × (fault ≡ fault_at one time))) is c.end.ensures.err));

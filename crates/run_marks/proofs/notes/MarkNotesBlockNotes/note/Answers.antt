@@ -1,29 +1,14 @@
-use Rattle.std.proofs.Common.{Option, [], ◌∷◌, ◌++◌, refl, subst, sym}
+use Rattle.std.proofs.Common.{[], ◌∷◌, ◌++◌, subst, sym}
 use Rattle.block_runs.specs.Notes.{note_of}
-use Rattle.block_runs.specs.declared.notes.Doubt.{Doubt}
-use Rattle.run_marks.specs.Reported.{HasReported}
-use Rattle.run_marks.proofs.Reports.{reports_doubt, reports_hit, reports_nothing}
+use Rattle.run_marks.specs.Reported.{HasListed}
 use Rattle.run_marks.proofs.notes.MarkNotesBlockNotes.note.Goals as goal
 
-pub returns-in-None : goal.returns-in-None
-returns-in-None c =
-    let x = c.args.self.now in
+pub returns : goal.returns
+returns c =
     record {
       added = λ s ns h.
-          subst (λ (o : Option Doubt). HasReported s (ns ++ note_of c.args.spot o ∷ []) x.process x.points.now c.hit.new.self) (sym c.in-None.is)
-          (reports_hit x.process x.points.now x.marks c.hit.new.self c.args.spot s ns h c.in-Some.point (c.in-Some.ensures.found c.in-Some.point refl) c.hit.ensures.points c.hit.ensures.verdicts);
+          record {
+            reported = c.mark.ensures.marked s.marks ns h.reported;
+            listed = subst (HasListed s.written (ns ++ note_of c.args.spot c.args.doubt ∷ [])) (sym c.mark.ensures.written) (c.list.ensures s.written ns c.args.doubt h.listed);
+          };
     }
-
-pub returns-in-Some-doubt : goal.returns-in-Some-doubt
-returns-in-Some-doubt c =
-    let x = c.args.self.now in
-    record {
-      added = λ s ns h.
-          subst (λ (o : Option Doubt). HasReported s (ns ++ note_of c.args.spot o ∷ []) x.process x.points.now c.doubt.new.self) (sym c.in-Some-doubt.is)
-          (reports_doubt x.process x.points.now x.marks c.doubt.new.self c.args.spot s ns h c.in-Some.point c.in-Some-doubt.doubt (c.in-Some.ensures.found c.in-Some.point refl) c.doubt.ensures.points c.doubt.ensures.verdicts);
-    }
-
-pub returns-in_default : goal.returns-in_default
-returns-in_default c =
-    let x = c.args.self.now in
-    record { added = λ s ns h. reports_nothing x.process x.points.now x.marks x.marks c.args.spot s ns h c.args.doubt (c.find.ensures.none c.in_default.is) }

@@ -1,0 +1,4 @@
+pub mod Targets
+pub mod Strong
+pub mod Weak
+pub mod Unnoted

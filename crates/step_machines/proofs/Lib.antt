@@ -1,0 +1,4 @@
+pub mod Closed
+pub mod Fits
+pub mod Joined
+pub mod Marked

@@ -1,0 +1,2 @@
+pub mod Marked
+pub use Rattle.machine_laws.specs as machine_laws

@@ -1,0 +1,9 @@
+pub mod Masks
+pub mod Counts
+pub mod Indexes
+pub mod Lists
+pub mod Cells
+pub mod Compared
+pub mod Walking
+pub mod Made
+pub mod Fitting

@@ -1,0 +1,3 @@
+pub mod Written
+pub mod Same
+pub use Rattle.index_sets.specs as index_sets
