@@ -8,7 +8,7 @@ pub enum Status {
     Done,
     /// The words are no command.
     Usage,
-    /// The sources have a fault.
+    /// The sources have a fault, or the points of their design are not listed.
     Source,
     /// The dump has a fault, or it does not fit the design.
     Dump,
