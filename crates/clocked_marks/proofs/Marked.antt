@@ -1,7 +1,6 @@
 -- The marks, and the words listed as written, after the run of a Clocked block.
 use Rattle.std.proofs.Common.{◌≡◌, ℕ, Bool, true, false, List, [], ◌∷◌, ◌++◌, refl, sym, ap, subst, ◌∙◌}
 use Rattle.std.proofs.lemmas.Bool.{false≢true}
-use Rattle.event_machine.specs.Cell.{Cell}
 use Rattle.body_replay.specs.Contract.{Certainty, HasNote, Note, Outcome, Store as ModelStore, outcome}
 use Rattle.body_replay.specs.Replay.{flush, word_write}
 use Rattle.body_replay.specs.Runs.{Runs, StoreView, own_store}

@@ -6,7 +6,7 @@ use Rattle.std.proofs.lemmas.Bool.{false≢true}
 use Rattle.std.proofs.lemmas.List.Elements.{All-from_recursion, All-map, All-weaker}
 use Rattle.cov_host.specs.Identifier.{is_identifier}
 use Rattle.command_line.specs.declared.score_option.ScoreOption.{ScoreOption}
-use Rattle.command_line.specs.declared.score_option.ScoreOption.TheVariants.{Top, Instance, Source, Define, Folder, Dump, Output, States, Late}
+use Rattle.command_line.specs.declared.score_option.ScoreOption.TheVariants.{Top, Instance, Source, Define, Folder, Dump, Output, States}
 use Rattle.command_line.specs.CommandWords.{at_most_one, values_in, AreIdentifiers, HaveForms, IsScore, ScoreValues}
 use Rattle.command_line.specs.Define.{define_of, Define as Defined}
 use Rattle.command_line.specs.MachineWords.{are_counted, is_machine, machine_of, module_of, names_in, names_text, variable_of}

@@ -1,5 +1,5 @@
 -- The values of an option that may be repeated.
-use Rattle.std.specs.Prelude.{ℕ, Bool, not, if◌then◌else◌, List, [], ◌∷◌, map}
+use Rattle.std.specs.Prelude.{ℕ, Bool, if◌then◌else◌, List, [], ◌∷◌, map}
 use Rattle.std.specs.Str.{bytes_eq}
 use Rattle.command_line.specs.declared.given_defines.GivenDefines.{GivenDefines}
 use Rattle.command_line.specs.declared.given_machines.GivenMachines.{GivenMachines}

@@ -1,8 +1,8 @@
 //! The coverage points of a lawful design, each once, in their order.
 //!
-//! [`list`] gives the points of lines, nodes, toggles and words: each that the definition of points in `design_model`
+//! [`list`] gives the points of lines, nodes, toggles, state machines and words: each that the definition of points in `design_model`
 //! has, and no other, with no two points of one visit. A design of more than [`MOST_POINTS`] is refused. [`Visit`] is
-//! what a replay reports of a point. State machines are not listed yet.
+//! what a replay reports of a point of a line, node, toggle or word.
 #![tactic(auto)]
 
 mod compare;

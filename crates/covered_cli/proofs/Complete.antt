@@ -1,6 +1,5 @@
 -- Where both files are told and no call of the host failed, the texts decide how a command ends.
-use Rattle.std.proofs.Common.{◌≡◌, inl, inr, ℕ, is_some, List, Option, None, Some, refl, sym, ap, subst, ◌∙◌}
-use Rattle.std.proofs.lemmas.Bool.{false≢true}
+use Rattle.std.proofs.Common.{◌≡◌, inl, inr, ℕ, List, Option, None, Some, refl, sym, ap, subst, ◌∙◌}
 use Rattle.std.specs.Prelude.{IfSome, IsSome, IsSomeAnd, MatchOption}
 use Rattle.command_line.proofs.OneCommand.{one_command, one_of_all}
 use Rattle.command_line.specs.Command.{AreWordsOf, CommandValues, score as of_score, merge as of_merge, report as of_report, lcov as of_lcov}
@@ -14,7 +13,6 @@ use Rattle.design_points.specs.Counted.{HasFewPoints}
 use Rattle.design_points.specs.cover_points.Faults.{IsPointFault}
 use Rattle.design_points.specs.cover_points.declared.fault.PointFault.{PointFault}
 use Rattle.design_points.specs.cover_points.declared.fault.PointFault.TheVariants as point_fault
-use Rattle.dump_score.proofs.BindingFirst.{replay_binds}
 use Rattle.shown_dumps.specs.Bound.{IsBound}
 use Rattle.shown_dumps.specs.Shown.{bound_dump}
 use Rattle.signal_binding.specs.Binding.{IsBindable}

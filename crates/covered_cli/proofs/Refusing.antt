@@ -1,5 +1,5 @@
 -- From the faults of the scoring to those of the program.
-use Rattle.std.proofs.Common.{◌≡◌, ℕ, ◌<◌, ◌+◌, ◌^◌, nat_lt, true, List, length, refl, sym, subst, arith}
+use Rattle.std.proofs.Common.{◌≡◌, ℕ, ◌<◌, ◌+◌, ◌^◌, true, List, length, refl, sym, subst, arith}
 use Rattle.std.proofs.lemmas.Bool.{lt-ltb}
 use Rattle.command_line.specs.CommandWords.{ScoreValues}
 use Rattle.cov_host.specs.Outside.{Outside}

@@ -1,5 +1,5 @@
 -- Where the points of a design are listed, nothing is wrong with its machines.
-use Rattle.std.proofs.Common.{◌≡◌, ◌∙◌, ℕ, zero, suc, ◌<◌, List, [], ◌∷◌, length, get_or, inl, inr, refl, sym, ap, subst, arith}
+use Rattle.std.proofs.Common.{◌≡◌, ℕ, zero, suc, ◌<◌, List, [], ◌∷◌, length, get_or, inl, inr, refl, subst, arith}
 use Rattle.std.specs.List.{AllZip}
 use Rattle.cover_points.specs.Faults.{IsPointFault}
 use Rattle.cover_points.specs.Listed.{IsPointList}
@@ -17,7 +17,7 @@ use Rattle.cover_points.specs.design_machines.state_machines.Same.{HasBefore}
 use Rattle.cover_points.specs.design_machines.state_machines.Values.{IsNamedSignal}
 use Rattle.design_model.specs.Design.{Design, In}
 use Rattle.design_model.specs.Lawful.{IsLawfulDesign}
-use Rattle.design_model.specs.Points.{IsInstanceOf, IsNameOf, IsStateValue, StateNames}
+use Rattle.design_model.specs.Points.{IsInstanceOf, IsStateValue, StateNames}
 use Rattle.design_model.specs.four_state.Vector.{Vector}
 use Rattle.design_points.specs.Counted.{HasFewPoints}
 use Rattle.design_points.proofs.Counts.{few_or_many}

@@ -1,4 +1,4 @@
-//! The first step of the replay, in a design without Clocked processes and memories.
+//! The first step of the replay.
 //!
 //! [`begin_first`] puts in the dump's values of all signals that it has, runs each continuous assignment once in its order,
 //! without notes, and compares what was made with the dump. The store then knows what the definition of the first step

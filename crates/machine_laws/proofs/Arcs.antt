@@ -1,12 +1,12 @@
 -- The values of an arc.
-use Rattle.std.proofs.Common.{◌≡◌, ◌≢◌, ◌∙◌, ◌<◌, ◌&&◌, ℕ, suc, true, List, [], ◌∷◌, length, inl, inr, ⊎_elim, refl, sym, ap, ap₂, subst, arith}
+use Rattle.std.proofs.Common.{◌≡◌, ◌≢◌, ◌∙◌, ◌&&◌, ℕ, suc, true, List, [], ◌∷◌, length, ⊎_elim, refl, sym, ap, ap₂, subst, arith}
 use Rattle.std.specs.List.{AllZip}
 use Rattle.std.proofs.lemmas.Bool.{cases_lt}
 use Rattle.mark_laws.specs.cover_points.Listed.{IsPlaced, IsPointList, points_of}
 use Rattle.mark_laws.specs.cover_points.MachinePoints.{IsOfMachine, machine_view}
-use Rattle.mark_laws.specs.cover_points.Visits.{IsMachinePointAt, no_point, point_at}
-use Rattle.mark_laws.specs.cover_points.design_machines.Machines.{IsMachineOf, machine_at, no_machine}
-use Rattle.mark_laws.specs.cover_points.design_machines.state_machines.Same.{HasBefore, bits_at}
+use Rattle.mark_laws.specs.cover_points.Visits.{no_point}
+use Rattle.mark_laws.specs.cover_points.design_machines.Machines.{machine_at, no_machine}
+use Rattle.mark_laws.specs.cover_points.design_machines.state_machines.Same.{bits_at}
 use Rattle.mark_laws.specs.cover_points.declared.listing.Points.{Points}
 use Rattle.mark_laws.specs.cover_points.declared.machine_point.MachinePoint.{MachinePoint}
 use Rattle.mark_laws.specs.cover_points.declared.machine_point.MachinePoint.TheVariants.{Arc, State}

@@ -1,15 +1,14 @@
 -- The verdicts of states and arcs after a step.
-use Rattle.std.proofs.Common.{◌≡◌, ◌≢◌, ◌∙◌, ◌<◌, ◌++◌, ◌||◌, ◌&&◌, not, ℕ, zero, suc, Bool, true, false, Option, Some, None, List, [], ◌∷◌, length, map, inl, inr, refl, sym, ap, ap₂, subst, arith}
+use Rattle.std.proofs.Common.{◌≡◌, ◌∙◌, ◌<◌, ◌++◌, ◌||◌, not, ℕ, Bool, true, false, Some, None, List, [], ◌∷◌, length, map, inl, inr, refl, sym, ap, ap₂, subst}
 use Rattle.std.specs.List.{range_with_len}
 use Rattle.std.specs.Prelude.{if◌then◌else◌}
-use Rattle.std.proofs.lemmas.Bool.{false≢true, true≢false}
 use Rattle.mark_laws.specs.replay_model.design_model.event_machine.Cell.{Cell}
 use Rattle.mark_laws.specs.Marked.{AreVerdicts, verdict_at}
 use Rattle.mark_laws.specs.Numbered.{verdict_view}
 use Rattle.mark_laws.specs.Signals.{FollowNotes, with_notes}
 use Rattle.mark_laws.specs.cover_points.Listed.{points_of}
 use Rattle.mark_laws.specs.cover_points.MachinePoints.{IsOfMachine, machine_of, machine_view, state_value}
-use Rattle.mark_laws.specs.cover_points.Visits.{IsMachinePointAt, IsVisitOf, point_at, visit_of}
+use Rattle.mark_laws.specs.cover_points.Visits.{IsMachinePointAt, IsVisitOf, point_at}
 use Rattle.mark_laws.specs.cover_points.design_machines.Machines.{machine_at}
 use Rattle.mark_laws.specs.cover_points.design_machines.declared.machine.Machine.{Machine}
 use Rattle.mark_laws.specs.cover_points.design_machines.state_machines.Same.{bits_at}
@@ -20,10 +19,9 @@ use Rattle.mark_laws.specs.cover_points.declared.visit.Visit.{Visit}
 use Rattle.mark_laws.specs.replay_model.Marks.{IsHitMarked, IsUnmarked, IsVerdict, Marking}
 use Rattle.mark_laws.specs.replay_model.Step.{Closing, all_run, are_surely, known_bits, may_be, point_notes, tell}
 use Rattle.mark_laws.specs.replay_model.body_replay.Store.{Kept}
-use Rattle.mark_laws.specs.replay_model.design_model.Design.{Design, cell, signal_at, signal_cells}
+use Rattle.mark_laws.specs.replay_model.design_model.Design.{Design, cell, signal_at}
 use Rattle.mark_laws.specs.replay_model.design_model.declared.point.Point.{Point}
 use Rattle.mark_laws.specs.replay_model.design_model.declared.point.Point.TheVariants as point
-use Rattle.mark_laws.specs.replay_model.four_state.declared.bit.Bit.{Bit}
 use Rattle.replay_steps.specs.Settling.{IsStillAt}
 use Rattle.point_marks.specs.declared.verdict.Verdict.{Verdict}
 use Rattle.point_marks.specs.declared.verdict.Verdict.TheVariants as marks

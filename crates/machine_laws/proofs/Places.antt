@@ -1,13 +1,13 @@
 -- The places of states and arcs in the list of points.
-use Rattle.std.proofs.Common.{◌≡◌, ◌∙◌, ◌<◌, ℕ, zero, suc, List, [], ◌∷◌, length, get_or, Some, None, inl, inr, refl, sym, ap, subst, arith}
+use Rattle.std.proofs.Common.{◌≡◌, ◌∙◌, ◌<◌, ℕ, suc, List, [], ◌∷◌, length, get_or, None, inl, inr, refl, sym, ap, subst, arith}
 use Rattle.mark_laws.specs.cover_points.Listed.{points_of}
 use Rattle.mark_laws.specs.cover_points.MachinePoints.{IsOfMachine, machine_view}
-use Rattle.mark_laws.specs.cover_points.Visits.{IsMachinePointAt, no_point, point_at, visit_of}
+use Rattle.mark_laws.specs.cover_points.Visits.{IsMachinePointAt, point_at, visit_of}
 use Rattle.mark_laws.specs.cover_points.design_machines.declared.machine.Machine.{Machine}
 use Rattle.mark_laws.specs.cover_points.declared.listing.Points.{Points}
 use Rattle.mark_laws.specs.cover_points.declared.machine_point.MachinePoint.{MachinePoint}
 use Rattle.mark_laws.specs.cover_points.declared.machine_point.MachinePoint.TheVariants.{Arc, State}
-use Rattle.mark_laws.proofs.cover_points.Places.{Where, in_lines, in_nodes, in_states, in_toggles, in_words, line_place, no_index, no_line, no_node, no_state, node_place, state_place, toggle_place, where_is, word_place}
+use Rattle.mark_laws.proofs.cover_points.Places.{Where, in_lines, in_nodes, in_states, in_toggles, in_words, line_place, no_state, node_place, state_place, toggle_place, where_is, word_place}
 use Rattle.mark_laws.specs.replay_model.design_model.Design.{In}
 use Rattle.mark_laws.specs.replay_model.design_model.declared.point.Point.{Point}
 use Rattle.mark_laws.specs.replay_model.design_model.declared.point.Point.TheVariants as point

@@ -1,9 +1,8 @@
 -- What a step reports of states.
-use Rattle.std.proofs.Common.{◌≡◌, ◌∙◌, ◌<◌, ◌++◌, ℕ, zero, suc, Bool, true, false, List, [], ◌∷◌, length, get_or, Some, None, inl, inr, refl, sym, ap, subst, append_assoc, arith}
+use Rattle.std.proofs.Common.{◌≡◌, ◌<◌, ◌++◌, ℕ, zero, suc, Bool, true, false, List, [], ◌∷◌, length, get_or, inl, inr, refl, sym, subst, arith}
 use Rattle.std.proofs.lemmas.Bool.{false≢true}
 use Rattle.mark_laws.specs.cover_points.Listed.{points_of}
 use Rattle.mark_laws.specs.cover_points.Visits.{no_point, point_at}
-use Rattle.mark_laws.specs.cover_points.declared.listing.Points.{Points}
 use Rattle.mark_laws.specs.replay_model.Marks.{IsHitMarked, IsUnmarked, Marking}
 use Rattle.mark_laws.specs.replay_model.Step.{Closing, all_point_notes, all_run, are_surely, closed, known_bits, may_be, point_notes, tell}
 use Rattle.mark_laws.specs.replay_model.design_model.Design.{Design}

@@ -12,7 +12,7 @@ use Rattle.mark_laws.specs.replay_model.Step.{are_surely, may_be}
 use Rattle.point_marks.specs.declared.verdict.Verdict.{Verdict}
 use Rattle.signal_marks.specs.Toggled.{toggled, verdict_of}
 use Rattle.machine_marks.specs.declared.chance.Chance.{Chance}
-use Rattle.machine_marks.specs.declared.chance.Chance.TheVariants.{Never, Open, Sure}
+use Rattle.machine_marks.specs.declared.chance.Chance.TheVariants.{Never, Sure}
 use Rattle.machine_marks.specs.declared.mark.Reason.{Reason}
 
 -- it surely is so

@@ -1,5 +1,5 @@
 -- A run that evaluates the body leaves each word that it does not mark to be written.
-use Rattle.std.proofs.Common.{◌≡◌, ◌⊎◌, inl, inr, ℕ, Bool, true, false, List, [], ◌∷◌, ◌++◌, map, refl, sym, ap, ap₂, subst, ◌∙◌, Option, Some, None, if◌then◌else◌}
+use Rattle.std.proofs.Common.{◌≡◌, inl, inr, ℕ, Bool, true, false, List, [], ◌∷◌, ◌++◌, map, refl, ap₂, ◌∙◌, Option, Some, None, if◌then◌else◌}
 use Rattle.design_model.specs.event_machine.Cell.{Cell}
 use Rattle.design_model.specs.four_state.declared.operator.CaseKind.{CaseKind}
 use Rattle.design_model.specs.Tree.{Term, Target, Stmt, block, branch, select, turns, set, empty, Stmts, no_stmts, a_stmt, Arms, no_arms, arm}
@@ -9,7 +9,7 @@ use Rattle.design_model.specs.Shape.{is_target}
 use Rattle.design_model.proofs.Execution.{EachSet, EachSetOf, EachSetIn}
 use Rattle.known_state.specs.Join.{join_bit}
 use Rattle.body_replay.specs.KnownBits.{KnownBits, holds, known_truth}
-use Rattle.body_replay.specs.Store.{KnownWrite, keep_all, known_value, set_bits, weaken, words}
+use Rattle.body_replay.specs.Store.{KnownWrite, known_value, set_bits, words}
 use Rattle.body_replay.specs.Replay.{HasMark, Mark, Mode, Spot, State, again, blame_of, decide, deeper, evaluate_known, hit, in_mode, index_first, index_marks, joined_states, labels_blame, labels_match, line, queued, reach, run, run_all, run_arms, run_default, run_set, see_labels, set_known, set_marks, term_marks, word_write, written_marks}
 use Rattle.body_replay.proofs.Frames.{Misses, QueueMisses, join_self, miss_weaken, missed, queue_more}
 use Rattle.body_replay.proofs.Marks.{mark_left, mark_right}

@@ -1,20 +1,19 @@
 -- The writes of an assignment that does not mark a word miss its cells.
-use Rattle.std.proofs.Common.{◌≡◌, ◌⊎◌, inl, inr, ℕ, ◌+◌, ◌<◌, ◌≤◌, ◌==◌, ◌&&◌, Bool, true, false, List, [], ◌∷◌, ◌++◌, map, take, drop, length, refl, sym, ap, subst, ◌∙◌, arith, Option, Some, None, if◌then◌else◌, eq-eqb, nat_le, nat_lt}
-use Rattle.std.proofs.lemmas.Bool.{and_parts, eqb-true, false≢true, leb-true}
+use Rattle.std.proofs.Common.{◌≡◌, inl, inr, ℕ, ◌+◌, ◌<◌, ◌≤◌, ◌==◌, ◌&&◌, Bool, true, false, List, [], ◌∷◌, ◌++◌, map, take, drop, length, refl, sym, ap, subst, ◌∙◌, arith, Option, Some, None, if◌then◌else◌, nat_le, nat_lt}
+use Rattle.std.proofs.lemmas.Bool.{and_parts, eqb-true, leb-true}
 use Rattle.std.proofs.Common.{ltb-true}
 use Rattle.std.specs.List.{range_with_len}
-use Rattle.design_model.specs.event_machine.Cell.{Cell, same_cell}
+use Rattle.design_model.specs.event_machine.Cell.{Cell}
 use Rattle.design_model.specs.four_state.declared.bit.Bit.{Bit}
 use Rattle.design_model.specs.four_state.Parts.{index}
-use Rattle.design_model.specs.Tree.{Term, Target, all_of, bits_of, word_of, several, Targets, no_targets, a_target}
+use Rattle.design_model.specs.Tree.{Target, all_of, bits_of, word_of, several, Targets, no_targets, a_target}
 use Rattle.design_model.specs.Design.{Design, In, cell, is_memory, memory_at, word_cells}
 use Rattle.design_model.specs.Value.{head, named_word}
 use Rattle.design_model.specs.Assignment.{targets_width}
-use Rattle.design_model.specs.Mentions.{target_names}
 use Rattle.design_model.specs.Shape.{are_targets, is_target}
 use Rattle.body_replay.specs.KnownBits.{KnownBits, on_whole, whole_bits}
 use Rattle.body_replay.specs.Store.{Kept, known_value, known_word_writes, known_writes, known_writes_all, may_name, perhaps_words, weaken, words, write_word, writes_of}
-use Rattle.body_replay.specs.Replay.{Blames, HasMark, Mark, Spot, all_written_marks, blame_of, doubted, hit, index_first, named_mark, perhaps_marks, word_marks, word_write, written_marks}
+use Rattle.body_replay.specs.Replay.{Blames, HasMark, Mark, all_written_marks, blame_of, doubted, hit, index_first, named_mark, perhaps_marks, word_marks, word_write, written_marks}
 use Rattle.body_replay.proofs.Frames.{Misses, miss_append, miss_target, miss_weaken}
 use Rattle.body_replay.proofs.Marks.{mark_left, mark_right}
 use Rattle.body_replay.proofs.Words.{other_word}

@@ -1,16 +1,15 @@
 -- A run leaves each word that it does not note to be written, in each way in which it notes.
-use Rattle.std.proofs.Common.{◌≡◌, ◌⊎◌, inl, inr, ℕ, Bool, true, false, List, [], ◌∷◌, map, refl, sym, ap, subst, ◌∙◌, if◌then◌else◌}
+use Rattle.std.proofs.Common.{◌≡◌, inl, inr, ℕ, Bool, true, false, List, [], ◌∷◌, map, refl, ap, ◌∙◌, if◌then◌else◌}
 use Rattle.design_model.specs.event_machine.Cell.{Cell}
 use Rattle.design_model.specs.Tree.{Stmt}
 use Rattle.design_model.specs.Design.{Design, In, body_at, is_memory, memory_at, word_cells}
-use Rattle.design_model.specs.Lawful.{IsLawfulDesign}
 use Rattle.design_model.specs.Shape.{is_target}
 use Rattle.design_model.proofs.BodyLaws.{each_target}
 use Rattle.design_model.proofs.Execution.{EachSet}
-use Rattle.body_replay.specs.Contract.{Certainty, HasNote, Note, Store, all_doubted, at_time, body_spots, clean, outcome, perhaps, quiet, read_of, shown_of, weak, weak_queue, weak_writes}
+use Rattle.body_replay.specs.Contract.{HasNote, Note, Store, all_doubted, at_time, body_spots, clean, outcome, perhaps, quiet, shown_of, weak, weak_queue, weak_writes}
 use Rattle.body_replay.specs.Replay.{HasMark, Mark, Spot, clean_run, flush, hit, started, word_write}
 use Rattle.body_replay.specs.Store.{Kept, words}
-use Rattle.body_replay.specs.Runs.{own_store, runs_of}
+use Rattle.body_replay.specs.Runs.{own_store}
 use Rattle.body_replay.proofs.Frames.{missed, queue_missed}
 use Rattle.noted_words.specs.Unnoted.{UnnotedLaw}
 use Rattle.noted_words.proofs.Strong.{run_leads}

@@ -3,7 +3,7 @@ use Rattle.std.specs.Prelude.{◌≡◌, ℕ, true, ⊤}
 use Rattle.design_model.specs.event_machine.Cell.{Cell}
 use Rattle.design_model.specs.Design.{Design, In, is_memory, memory_at, word_cells}
 use Rattle.design_model.specs.Lawful.{IsLawfulDesign}
-use Rattle.body_replay.specs.Contract.{Certainty, HasNote, clean, perhaps, quiet, weak}
+use Rattle.body_replay.specs.Contract.{Certainty, HasNote, quiet}
 use Rattle.body_replay.specs.Replay.{flush, word_write}
 use Rattle.body_replay.specs.Runs.{StoreView, runs_of}
 use Rattle.body_replay.specs.Store.{Kept, words}

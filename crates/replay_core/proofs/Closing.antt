@@ -1,6 +1,6 @@
 -- A closing step of each dump that was followed up to it.
-use Rattle.std.proofs.Common.{◌≡◌, ◌↔◌, ◌∙◌, ℕ, suc, ◌+◌, ◌<◌, ◌||◌, Bool, true, false, ◌++◌, List, flat_map, length, Option, Some, None, refl, sym, ap, subst}
-use Rattle.std.specs.Prelude.{filter, slice_index_or}
+use Rattle.std.proofs.Common.{◌≡◌, ◌∙◌, ℕ, suc, ◌+◌, Bool, true, false, ◌++◌, List, flat_map, length, Option, Some, None, sym, ap, subst}
+use Rattle.std.specs.Prelude.{slice_index_or}
 use Rattle.std.proofs.lemmas.Bool.{or_left}
 use Rattle.event_machine.specs.Cell.{Cell}
 use Rattle.four_state.specs.Vector.{Vector}
@@ -9,18 +9,18 @@ use Rattle.body_store.specs.declared.store.Store.{Store}
 use Rattle.code_values.specs.Values.{value_of}
 use Rattle.cover_marks.specs.Marks.{AreMarksOf}
 use Rattle.cover_marks.specs.declared.marks.Marks.{Marks}
-use Rattle.design_model.specs.Design.{AreDistinct, In, IsClocked, process_at, signal_bits}
+use Rattle.design_model.specs.Design.{AreDistinct, In, process_at, signal_bits}
 use Rattle.design_model.specs.Machine.{is_level}
 use Rattle.design_model.specs.Shows.{BoundDump}
-use Rattle.dump_check.specs.Checks.{AgreesAt, IsFirstDifference, last_of_each}
+use Rattle.dump_check.specs.Checks.{IsFirstDifference, last_of_each}
 use Rattle.dump_check.specs.declared.order.Difference.{Difference}
 use Rattle.early_sets.specs.WakeState.{WakeState}
 use Rattle.index_sets.specs.Rows.{row_at}
 use Rattle.first_step.specs.mark_laws.Marked.{AreVerdicts}
-use Rattle.process_order.proofs.Distinct.{contains_in, filter_in, in_filter}
+use Rattle.process_order.proofs.Distinct.{filter_in, in_filter}
 use Rattle.process_targets.specs.Rows.{AreTargetRows}
 use Rattle.process_targets.specs.declared.bits.Bits.{Bits}
-use Rattle.replay_follows.specs.Follows.{Parts, Subject}
+use Rattle.replay_follows.specs.Follows.{Subject}
 use Rattle.replay_follows.specs.Laws.{due_at, next_replay}
 use Rattle.replay_follows.proofs.Steps.{against, closes, due}
 use Rattle.replay_model.proofs.Bits.{any_in}
@@ -29,18 +29,17 @@ use Rattle.replay_model.specs.Step.{Closing, Replay, all_run, contradicts, is_to
 use Rattle.first_step.specs.replay_sets.SetsOf.{sets_of}
 use Rattle.step_start.proofs.step_parts.clocked_laws.Moved.{moves_are}
 use Rattle.first_step.proofs.replay_steps.Settling.{targets_move}
-use Rattle.signal_marks.specs.Seen.{AreSeen}
 use Rattle.first_step.specs.step_changes.Changes.{AreChangedSignals}
 use Rattle.first_step.specs.step_check.Checks.{AreCheckRows}
 use Rattle.first_step.specs.step_check.Laws.{HasRun}
-use Rattle.first_step.proofs.step_check.Checked.{agree_law, differ_law}
+use Rattle.first_step.proofs.step_check.Checked.{differ_law}
 use Rattle.step_marks.specs.Marked.{IsOver, IsSeenAfter}
 use Rattle.step_machines.specs.Marked.{IsOver as IsMachineStep}
 use Rattle.step_machines.proofs.Closed as marking
 use Rattle.machine_laws.specs.Followed.{MarksMachines}
 use Rattle.machine_laws.specs.Told.{AreTold}
 use Rattle.step_start.specs.step_parts.AtStep.{AtRest, AtStep}
-use Rattle.step_start.specs.step_parts.Due.{Due, HasBegun, IsContradicted, IsDueStep, step_of}
+use Rattle.step_start.specs.step_parts.Due.{HasBegun, IsContradicted, IsDueStep, step_of}
 use Rattle.step_start.proofs.step_parts.Noted.{noted, seen_more}
 use Rattle.step_runs.specs.Runs.{IsRunOf}
 use Rattle.step_runs.proofs.Changed.{steps_are}

@@ -1,5 +1,5 @@
 -- What follows from the parts after a closing step for the replay itself.
-use Rattle.std.proofs.Common.{◌≡◌, ◌∙◌, ℕ, suc, ◌<◌, List, [], IfErr, IfNone, IfSome, length, OnOk, Option, Some, None, Err, Ok, Result, refl, sym, ap, subst}
+use Rattle.std.proofs.Common.{◌≡◌, ◌∙◌, ℕ, suc, ◌<◌, [], IfErr, IfNone, IfSome, length, OnOk, Option, Some, None, Err, Ok, Result, refl, sym, ap, subst}
 use Rattle.cover_points.specs.declared.listing.Points.{Points}
 use Rattle.design_model.specs.Design.{Design}
 use Rattle.design_model.specs.Shows.{BoundDump, IsListed, IsWindow}
@@ -12,8 +12,8 @@ use Rattle.replay_core.specs.Closing.{Closes, Counts, ForDue, IsDueAt, Refutes}
 use Rattle.replay_core.specs.Faults.{IsContradiction, fault_at, phase_after}
 use Rattle.replay_core.specs.Fits.{FitsParts, FitsReplay, HaveValues, IsReplayable, signal_of}
 use Rattle.replay_core.specs.Followed.{AreGivenAt, HasFollowed, IsNextStep}
-use Rattle.replay_core.specs.Made.{HasFollows, IsDumpFor, Made, subject_of}
-use Rattle.replay_core.specs.Parts.{HasRefused, IsReady, IsStarted, given_of, made_of, parts_of}
+use Rattle.replay_core.specs.Made.{HasFollows, IsDumpFor, subject_of}
+use Rattle.replay_core.specs.Parts.{HasRefused, IsStarted, given_of, made_of, parts_of}
 use Rattle.replay_core.specs.Steps.{CountsSensitive}
 use Rattle.replay_core.specs.declared.fault.Phase.{Phase}
 use Rattle.replay_core.specs.declared.fault.Phase.TheVariants.{New, Refused, Started}

@@ -1,5 +1,5 @@
 -- A replay after the first step.
-use Rattle.std.proofs.Common.{◌≡◌, ◌∙◌, ℕ, ◌<◌, ◌≤◌, Bool, false, List, [], length, IfErr, IfNone, IfSome, OnOk, Option, Some, None, Result, Ok, Err, inl, inr, refl, sym, ap, subst, arith}
+use Rattle.std.proofs.Common.{◌≡◌, ℕ, ◌<◌, ◌≤◌, false, List, [], length, IfErr, IfNone, IfSome, OnOk, Option, Some, None, Result, Ok, Err, inl, inr, refl, sym, ap, subst, arith}
 use Rattle.std.specs.Prelude.{nat_lt}
 use Rattle.std.proofs.lemmas.Bool.{cases_Bool}
 use Rattle.std.proofs.lemmas.Bool.Decides.{nat_tests}
@@ -10,7 +10,7 @@ use Rattle.cover_points.specs.declared.listing.Points.{Points}
 use Rattle.design_model.specs.Design.{Design}
 use Rattle.dump_check.specs.declared.order.Difference.{Difference}
 use Rattle.replay_core.specs.Faults.{fault_at, phase_after}
-use Rattle.replay_core.specs.Fits.{FitsParts, FitsReplay, HaveValues, IsReplayable, IsUntouched, signal_of}
+use Rattle.replay_core.specs.Fits.{FitsParts, FitsReplay, HaveValues, IsReplayable, signal_of}
 use Rattle.replay_core.specs.declared.fault.Phase.{Phase}
 use Rattle.replay_core.specs.declared.fault.Phase.TheVariants.{New, Refused, Started}
 use Rattle.replay_core.specs.declared.fault.ReplayFault.{ReplayFault}

@@ -1,5 +1,5 @@
 -- The values that the dump gave are those of the cells of the signals.
-use Rattle.std.proofs.Common.{◌≡◌, ◌∙◌, ℕ, ◌+◌, ◌<◌, Bool, true, false, List, [], ◌∷◌, length, get_or, map, Option, Some, None, refl, sym, ap, subst, arith}
+use Rattle.std.proofs.Common.{◌≡◌, ◌∙◌, ℕ, true, false, List, [], ◌∷◌, length, map, Option, Some, None, refl, sym, ap, arith}
 use Rattle.std.specs.Prelude.{is_none, slice_index_or}
 use Rattle.std.specs.List.{range_with_len}
 use Rattle.std.proofs.lemmas.List.{ext_get_or}
@@ -9,7 +9,7 @@ use Rattle.event_machine.specs.Cell.{Cell, Values as CellValues}
 use Rattle.four_state.specs.Vector.{Vector}
 use Rattle.four_state.specs.declared.bit.Bit.{Bit}
 use Rattle.four_state.specs.declared.bit.Bit.TheVariants.{X}
-use Rattle.design_model.specs.Design.{Design, cell, signal_at, signal_bits, signal_cells}
+use Rattle.design_model.specs.Design.{Design, cell, signal_at, signal_bits}
 use Rattle.code_values.specs.Values.{lacks_code, value_of}
 use Rattle.first_step.specs.step_values.Dumped.{AreDumped}
 use Rattle.replay_core.specs.Fits.{AreWideValues, HaveValues}

@@ -3,7 +3,7 @@ use Rattle.std.proofs.Common.{◌≡◌, ℕ, ◌<◌, Bool, true, false, ◌++�
 use Rattle.std.specs.List.{All}
 use Rattle.std.proofs.lemmas.List.Elements.{All-cons, All-nil}
 use Rattle.std.specs.Prelude.{filter, if◌then◌else◌, nat_eq}
-use Rattle.std.proofs.lemmas.Bool.{cases_Bool, eqb-true, false_from_ne_true}
+use Rattle.std.proofs.lemmas.Bool.{eqb-true, false_from_ne_true}
 use Rattle.cover_points.proofs.Members.{in_append}
 use Rattle.design_model.specs.Design.{AreDistinct, Design, In, IsClocked, process_at}
 use Rattle.process_order.proofs.Distinct.{in_filter}

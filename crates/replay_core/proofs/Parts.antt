@@ -1,12 +1,10 @@
 -- The parts of a replay fit its design before and after each call.
-use Rattle.std.proofs.Common.{◌≡◌, ◌∙◌, ℕ, ◌+◌, ◌<◌, ◌≤◌, ◌^◌, Bool, true, ◌++◌, List, [], length, Option, Some, None, inl, inr, refl, sym, ap, ap₂, subst, arith}
+use Rattle.std.proofs.Common.{◌≡◌, ◌∙◌, ℕ, ◌+◌, ◌<◌, ◌≤◌, ◌^◌, Bool, true, ◌++◌, List, [], length, Option, Some, None, inl, inr, sym, ap, ap₂, subst, arith}
 use Rattle.std.specs.Prelude.{◌-◌, ◌&&◌, nat_le, nat_lt, replicate, slice_index_or}
 use Rattle.std.proofs.lemmas.Bool.{cases_Bool}
 use Rattle.std.proofs.lemmas.Bool.Decides.{nat_tests}
 use Rattle.std.proofs.lemmas.List.{get_or-replicate, get_or_past, length-replicate}
-use Rattle.event_machine.specs.Cell.{Values as CellValues}
 use Rattle.four_state.specs.Vector.{Vector}
-use Rattle.four_state.specs.declared.bit.Bit.{Bit}
 use Rattle.body_replay.specs.Store.{Kept}
 use Rattle.body_store.specs.declared.store.Store.{Store}
 use Rattle.body_store.specs.Made.{nothing}
@@ -14,10 +12,9 @@ use Rattle.chosen_early.specs.Shared.{IsSameButEarly}
 use Rattle.code_values.specs.Values.{Values, no_values, value_of}
 use Rattle.cover_marks.specs.Marks.{AreMarksOf}
 use Rattle.cover_points.specs.declared.listing.Points.{Points}
-use Rattle.design_model.specs.Design.{Design, signal_at}
+use Rattle.design_model.specs.Design.{Design}
 use Rattle.design_model.specs.Lawful.{IsLawfulDesign}
 use Rattle.design_model.specs.View.{design_view}
-use Rattle.early_sets.specs.Rounds.{writer_at}
 use Rattle.early_sets.specs.WakeState.{WakeState, state_of}
 use Rattle.first_step.specs.step_changes.Changes.{AreUnsigned}
 use Rattle.dump_check.specs.Checks.{Checks}
@@ -33,7 +30,6 @@ use Rattle.first_step.specs.store_knowledge.Knows.{Knows}
 use Rattle.wake_laws.specs.Laws.{HasNoWriters}
 use Rattle.replay_core.specs.Codes.{flags_of}
 use Rattle.step_words.specs.Words.{FitsRanges, StepState}
-use Rattle.written_words.specs.Same.{FollowsAll}
 use Rattle.written_words.specs.Written.{WrittenState, in_range, range_at}
 use Rattle.written_words.specs.declared.range.WordRange.{WordRange}
 use Rattle.replay_core.specs.Fits.{AreWideValues, FitsParts, FitsReplay, FitsRoom, FitsState, FitsTables, FitsWords, HaveValues, IsReplayable, IsUntouched}

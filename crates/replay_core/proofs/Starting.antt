@@ -1,30 +1,24 @@
 -- The first step of each dump that a replay can be of.
-use Rattle.std.proofs.Common.{◌≡◌, ◌∙◌, ℕ, ◌+◌, ◌<◌, ◌≤◌, Bool, true, false, ◌++◌, List, [], ◌∷◌, length, IfNone, IfSome, Option, Some, None, refl, sym, ap, subst, inl, arith}
+use Rattle.std.proofs.Common.{◌≡◌, ◌∙◌, ℕ, ◌+◌, ◌<◌, ◌≤◌, Bool, true, false, ◌++◌, List, [], ◌∷◌, length, IfNone, IfSome, Option, Some, None, sym, ap, subst, arith}
 use Rattle.std.specs.Prelude.{filter, if◌then◌else◌, is_some}
 use Rattle.std.proofs.Math.Path.{fun_ext}
 use Rattle.event_machine.specs.Cell.{Cell}
 use Rattle.four_state.specs.Vector.{Vector}
 use Rattle.body_replay.specs.Runs.{AreRuns, runs_of}
-use Rattle.body_store.specs.declared.store.Store.{Store}
 use Rattle.cover_marks.specs.Marks.{AreMarksOf}
-use Rattle.cover_points.specs.Listed.{points_of}
 use Rattle.cover_points.specs.declared.listing.Points.{Points}
 use Rattle.design_model.specs.Design.{Design}
 use Rattle.design_model.specs.Shows.{BoundDump, IsFirst, IsShown}
 use Rattle.early_sets.specs.declared.habit.Habit.{Habit}
 use Rattle.machine_laws.proofs.Arcs.{arcs_apart}
-use Rattle.process_order.specs.Tables.{tables_of}
-use Rattle.replay_follows.specs.Follows.{Follows, IsSubject, Parts, Subject}
+use Rattle.replay_follows.specs.Follows.{Follows, IsSubject, Parts}
 use Rattle.replay_follows.specs.Laws.{first_replay}
 use Rattle.replay_follows.proofs.Steps.{against_first, starts}
-use Rattle.replay_model.specs.Laws.{IsReplayOf}
-use Rattle.replay_model.specs.Start.{contradicts_first, started}
-use Rattle.replay_model.specs.Step.{Replay}
-use Rattle.replay_model.specs.Tables.{AreTables, Tables}
+use Rattle.replay_model.specs.Start.{contradicts_first}
+use Rattle.replay_model.specs.Tables.{AreTables}
 use Rattle.first_step.specs.step_changes.Changes.{AreUnsigned}
 use Rattle.step_start.specs.step_parts.AtStep.{AtRest}
 use Rattle.first_step.specs.step_values.Dumped.{AreDumped}
-use Rattle.first_step.specs.step_values.Loose.{has_code}
 use Rattle.first_step.specs.step_wakes.Step.{IsOfDesign}
 use Rattle.first_step.specs.store_knowledge.Knows.{Knows}
 use Rattle.wake_laws.specs.Laws.{HasNoWriters, habit_of}

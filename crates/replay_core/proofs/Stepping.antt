@@ -69,7 +69,7 @@ use Rattle.replay_core.proofs.Words.{watched_changes, words_stay}
 use Rattle.first_step.specs.settling.Wakes.{HasWordChanges}
 use Rattle.step_runs.specs.Laws.{KeptWordsLaw, WordsLaw}
 use Rattle.first_step.specs.step_values.Starts.{left_by_clocked}
-use Rattle.step_words.specs.Words.{AreWordChanges, HasWords, StepState}
+use Rattle.step_words.specs.Words.{AreWordChanges, HasWords}
 use Rattle.written_words.specs.Same.{FollowsAll, SameUnwritten}
 use Rattle.written_words.specs.Written.{WrittenState}
 

@@ -1,5 +1,5 @@
 -- A replay before its first step.
-use Rattle.std.proofs.Common.{◌≡◌, ◌∙◌, ◌<◌, ◌≤◌, ℕ, Bool, true, false, List, [], ◌∷◌, IfOk, Result, Ok, Err, inl, inr, refl, sym, ap, subst, arith, length}
+use Rattle.std.proofs.Common.{◌≡◌, ◌∙◌, ◌<◌, ◌≤◌, ℕ, Bool, false, List, [], ◌∷◌, IfOk, Result, Ok, Err, inl, inr, refl, sym, ap, subst, arith, length}
 use Rattle.std.specs.Prelude.{nat_lt, replicate, slice_index_or}
 use Rattle.std.proofs.lemmas.Bool.{cases_Bool}
 use Rattle.std.proofs.lemmas.Bool.Decides.{nat_tests}

@@ -1,5 +1,5 @@
 -- What is known of words from step to step.
-use Rattle.std.proofs.Common.{◌≡◌, ◌⊎◌, inl, inr, ℕ, suc, zero, ◌+◌, ◌-◌, ◌*◌, ◌<◌, ◌≤◌, ◌&&◌, Bool, true, false, List, [], ◌∷◌, map, length, max, min, nat_le, nat_lt, None, refl, sym, ap, ap₂, subst, ◌∙◌, arith, le-leb, lt-ltb}
+use Rattle.std.proofs.Common.{◌≡◌, inl, inr, ℕ, suc, zero, ◌+◌, ◌-◌, ◌*◌, ◌<◌, ◌≤◌, Bool, true, List, [], ◌∷◌, map, length, max, min, nat_le, nat_lt, refl, sym, ap, ap₂, subst, ◌∙◌, arith, le-leb, lt-ltb}
 use Rattle.std.specs.List.{range_with_len}
 use Rattle.std.specs.Prelude.{if◌then◌else◌, slice_index_or}
 use Rattle.std.proofs.lemmas.Bool.{and_from, and_parts, cases_Bool, leb-true, ltb-true}
@@ -7,12 +7,11 @@ use Rattle.std.proofs.lemmas.Bool.Decides.{nat_tests}
 use Rattle.std.proofs.lemmas.List.{get_or_past}
 use Rattle.event_machine.specs.Cell.{Cell}
 use Rattle.body_replay.specs.Store.{Kept}
-use Rattle.design_model.specs.BodyLaws.{word_indexes}
 use Rattle.design_model.specs.Design.{Design, In, cell, is_memory, memory_at, no_memory}
 use Rattle.design_model.specs.declared.design.Memory.{Memory}
 use Rattle.index_sets.specs.Rows.{row_at}
 use Rattle.replay_model.specs.Step.{Closing}
-use Rattle.first_step.specs.settling.Wakes.{HasWordChanges, IsWatched}
+use Rattle.first_step.specs.settling.Wakes.{HasWordChanges}
 use Rattle.step_words.specs.Words.{AreWordChanges, FitsRanges, HasWords, StepState}
 use Rattle.written_words.specs.Same.{FollowsAll}
 use Rattle.written_words.specs.Written.{AreRanges, WrittenState, flag_at, in_range, no_range, range_at, range_of}

@@ -1,5 +1,5 @@
 -- What the first step and a closing step do to the parts of a replay.
-use Rattle.std.specs.Prelude.{◌≡◌, ℕ, suc, List, Option}
+use Rattle.std.specs.Prelude.{◌≡◌, ℕ, suc}
 use Rattle.code_values.specs.Values.{Values}
 use Rattle.design_model.specs.Shows.{BoundDump, IsFirst, IsListed, IsShown, IsWindow}
 use Rattle.dump_check.specs.declared.order.Difference.{Difference}

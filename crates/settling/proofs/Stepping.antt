@@ -1,7 +1,6 @@
 -- The parts of the code after a run, beside the definition of the run.
 use Rattle.std.proofs.Common.{◌≡◌, ℕ, ◌<◌, ◌==◌, ◌&&◌, ◌||◌, Bool, true, false, not, if◌then◌else◌, List, get_or, length, map, Option, None, refl, sym, ap, ap₂, subst, ◌∙◌, eq-eqb, length-set}
 use Rattle.std.specs.Prelude.{slice_index_or, slice_set}
-use Rattle.std.specs.List.{All}
 use Rattle.std.proofs.lemmas.Bool.{eqb-true, false≢true}
 use Rattle.std.proofs.lemmas.List.{get_or-set_other, get_or-set_same}
 use Rattle.known_state.specs.Partly.{Partly}

@@ -2,10 +2,9 @@
 use Rattle.std.proofs.Common.{◌≡◌, ◌⊎◌, inl, inr, ⊎_elim, ℕ, zero, suc, ◌+◌, ◌*◌, ◌<◌, ◌≤◌, ◌&&◌, ◌||◌, Bool, true, false, not, if◌then◌else◌, List, [], ◌∷◌, ◌++◌, map, length, get_or, Option, Some, None, refl, sym, ap, ap₂, subst, ◌∙◌, arith, nat_le, nat_lt, lt-ltb}
 use Rattle.std.specs.List.{list_all, list_any, range_with_len}
 use Rattle.std.proofs.Math.ListN.{get_or-map}
-use Rattle.std.proofs.lemmas.Bool.{and_from, and_parts, false≢true, false_from_ne_true, leb-true}
+use Rattle.std.proofs.lemmas.Bool.{and_from, and_parts, false_from_ne_true, leb-true}
 use Rattle.std.proofs.lemmas.Bool.Decides.{nat_tests}
 use Rattle.std.proofs.lemmas.List.{length-map}
-use Rattle.std.proofs.lemmas.List.Elements.{Contains-get_or}
 use Rattle.event_machine.specs.Cell.{Cell}
 use Rattle.four_state.specs.declared.bit.Bit.{Bit}
 use Rattle.design_model.specs.BodyLaws.{all_cells, word_indexes, words_cells}
@@ -15,7 +14,6 @@ use Rattle.design_model.specs.View.{design_view}
 use Rattle.design_model.specs.declared.design.Design.{Design as CodeDesign}
 use Rattle.design_model.proofs.Lawful.{same_bit_self}
 use Rattle.body_replay.specs.Contract.{Outcome}
-use Rattle.body_replay.specs.Store.{Kept}
 use Rattle.settled_runs.specs.process_targets.Laws.{WritesSignals}
 use Rattle.settled_runs.specs.replay_steps.Settling.{IsStillAt}
 use Rattle.step_parts.specs.replay_model.Step.{Closing, Working, acts, after_settling, certainty, has_changed, is_comb, is_dumped, is_still, is_touched, kept_target, not_assigned, plain_store, run_settling, settled_kept, surely_differ, surely_same, wake_cells}

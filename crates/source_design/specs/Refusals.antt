@@ -2,9 +2,7 @@
 use Rattle.std.specs.Prelude.{◌≡◌, ◌≢◌, ℕ, List, Option, None, Some, Ok, Err}
 use Rattle.std.specs.Option.{option_map}
 use Rattle.cov_host.specs.declared.place.Place.{Place}
-use Rattle.design_model.specs.Design.{Design}
 use Rattle.flat_design.specs.Fault.{of_constant, of_modules}
-use Rattle.flat_design.specs.Faults.{answer}
 use Rattle.verilog_lexer.specs.Defines.{DefineText}
 use Rattle.verilog_lexer.specs.Reading.{tokens_of}
 use Rattle.verilog_lexer.specs.Sources.{SourceText, name_of}
@@ -14,7 +12,7 @@ use Rattle.verilog_lexer.specs.declared.fault.LexKind.TheVariants.{IncludeMissin
 use Rattle.verilog_parser.specs.Parses.{StandsIn}
 use Rattle.verilog_parser.specs.declared.fault.ParseFault.TheVariants as parse_fault
 use Rattle.verilog_tree.specs.Tree as t
-use Rattle.source_design.specs.Accepted.{AreAccepted, AreFaulty}
+use Rattle.source_design.specs.Accepted.{AreFaulty}
 use Rattle.source_design.specs.declared.fault.SourceKind.{SourceKind}
 use Rattle.source_design.specs.declared.fault.SourceKind.TheVariants as kind
 use Rattle.source_design.specs.declared.fault.SourceRefusal.{SourceRefusal}

@@ -3,7 +3,6 @@
 //! [`States`] keeps the named machines, one for each variable of a module. [`machine_in`] gives the signal and the
 //! values of the states of a machine in an instance of a lawful design, or says which name is no signal or no
 //! parameter of it; [`first_same`] finds a state whose value an earlier one has. Each is proved to answer exactly so.
-//! No program calls these yet.
 #![tactic(auto)]
 
 mod lookups;

@@ -1,5 +1,5 @@
 -- Verdicts of states and arcs that are marked twice.
-use Rattle.std.proofs.Common.{◌≡◌, ◌∙◌, ℕ, ◌||◌, Bool, true, false, if◌then◌else◌, List, refl, sym, ap}
+use Rattle.std.proofs.Common.{◌≡◌, ◌∙◌, ℕ, ◌||◌, Bool, true, false, List, refl, sym, ap}
 use Rattle.cover_points.specs.Visits.{IsMachinePointAt}
 use Rattle.cover_points.specs.declared.listing.Points.{Points}
 use Rattle.cover_points.specs.declared.machine_point.MachinePoint.{MachinePoint}

@@ -22,7 +22,6 @@ use Rattle.written_words.specs.Written.{WrittenState}
 use Rattle.step_runs.specs.Runs.{AtRun}
 use Rattle.settling.specs.Runs.{AtPoint, outcome_at}
 use Rattle.settling.proofs.Stepping.{touched_is}
-use Rattle.settling.specs.step_parts.AtStep.{AtStep}
 use Rattle.settling.specs.step_values.Vectors.{StepVectors}
 
 -- the parts except the marks

@@ -1,5 +1,5 @@
 -- The Assigns and Combs start with the words that the Clocked have left.
-use Rattle.std.proofs.Common.{◌≡◌, ◌⊎◌, ⊎_elim, inl, inr, ltb-true, zero, suc, get_or, ℕ, ◌+◌, ◌<◌, ◌≤◌, ◌&&◌, ◌||◌, Bool, true, false, not, if◌then◌else◌, List, [], ◌∷◌, ◌++◌, length, Option, None, Some, refl, sym, ap, ◌∙◌, arith, nat_le, nat_lt}
+use Rattle.std.proofs.Common.{◌≡◌, ◌⊎◌, ⊎_elim, inl, inr, ltb-true, zero, suc, get_or, ℕ, ◌+◌, ◌<◌, ◌≤◌, ◌&&◌, Bool, true, false, not, if◌then◌else◌, List, [], ◌∷◌, ◌++◌, length, None, Some, refl, sym, ap, ◌∙◌, arith, nat_le, nat_lt}
 use Rattle.std.specs.List.{list_any}
 use Rattle.std.proofs.lemmas.Bool.{and_parts, false_from_ne_true, false≢true, leb-true, or_cases}
 use Rattle.event_machine.specs.Cell.{Cell, Values as CellValues}
@@ -19,7 +19,6 @@ use Rattle.settling.specs.replay_model.Tables.{AreTables, Tables}
 use Rattle.settling.specs.step_values.Starts.{left_by_clocked}
 use Rattle.settling.specs.Wakes.{HasWordChanges}
 use Rattle.step_words.specs.Words.{StepState}
-use Rattle.step_runs.specs.Laws.{WordsLaw}
 
 in_either : (x : ℕ) (xs ys : List ℕ) → In x (xs ++ ys) → In x xs ⊎ In x ys
 in_either x [] ys h = inr h

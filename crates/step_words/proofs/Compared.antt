@@ -1,6 +1,6 @@
 -- The words of a step once those that are written have been compared.
-use Rattle.std.proofs.Common.{◌≡◌, ◌⊎◌, inl, inr, ⊎_elim, ℕ, zero, suc, ◌+◌, ◌-◌, ◌*◌, ◌<◌, ◌≤◌, ◌==◌, ◌&&◌, ◌||◌, Bool, true, false, not, if◌then◌else◌, List, [], ◌∷◌, ◌++◌, map, set, get_or, length, Option, Some, None, refl, sym, ap, ap₂, subst, ◌∙◌, arith, eq-eqb, nat_le, nat_lt, lt-ltb, le-leb, length-set, get_or-set_same, get_or-set_other}
-use Rattle.std.specs.List.{list_all, list_any, range_with_len}
+use Rattle.std.proofs.Common.{◌≡◌, ◌⊎◌, inl, inr, ⊎_elim, ℕ, zero, suc, ◌+◌, ◌-◌, ◌*◌, ◌<◌, ◌≤◌, ◌==◌, ◌&&◌, ◌||◌, Bool, true, false, not, if◌then◌else◌, List, [], ◌∷◌, ◌++◌, map, set, length, Option, Some, None, refl, sym, ap, ap₂, subst, ◌∙◌, arith, eq-eqb, nat_le, nat_lt, lt-ltb, le-leb, length-set, get_or-set_same, get_or-set_other}
+use Rattle.std.specs.List.{list_all, list_any}
 use Rattle.std.proofs.lemmas.Bool.{and_from, and_parts, eqb-true, false_from_ne_true, false≢true, leb-true, ltb-true, or_cases, or_left, or_right}
 use Rattle.std.proofs.lemmas.List.{length-map}
 use Rattle.std.proofs.lemmas.List.FromFn.{length-map-range_with_len}
@@ -19,7 +19,6 @@ use Rattle.write_log.specs.Entries.{has}
 use Rattle.write_log.proofs.Joins.{has_append}
 use Rattle.written_words.specs.Same.{FollowsAll, SameUnwritten}
 use Rattle.written_words.specs.Written.{AreWritten, WrittenState, has_word, in_range, is_followed, range_at}
-use Rattle.written_words.specs.declared.range.WordRange.{WordRange}
 use Rattle.step_words.specs.Changes.{are_whole, word_in, words_agree, words_differ}
 use Rattle.step_words.specs.Words.{AreWordChanges, FitsRanges, HasWords, StepState, after_memories, after_places, after_word, has_changed, is_still, put_if, unchanged, words_of}
 use Rattle.step_words.proofs.Cells.{agree_cells, all_from, all_gives, any_from, differ_cells, found_in, word_in_words, word_of_cell}

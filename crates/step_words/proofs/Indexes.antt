@@ -1,9 +1,8 @@
 -- The word that a sure index names.
-use Rattle.std.proofs.Common.{◌≡◌, ◌⊎◌, inl, inr, ℕ, zero, suc, ◌+◌, ◌-◌, ◌<◌, ◌≤◌, ◌&&◌, ◌^◌, Bool, true, false, if◌then◌else◌, List, map, length, Option, Some, None, max, min, nat_le, refl, sym, ap, ap₂, subst, ◌∙◌, arith, le-leb}
-use Rattle.std.specs.Prelude.{ℤ, pos}
+use Rattle.std.proofs.Common.{◌≡◌, inl, inr, ℕ, zero, suc, ◌+◌, ◌-◌, ◌<◌, ◌≤◌, ◌^◌, false, if◌then◌else◌, map, Some, None, max, min, nat_le, sym, ap, subst, ◌∙◌, arith, le-leb}
+use Rattle.std.specs.Prelude.{pos}
 use Rattle.std.specs.List.{range_with_len}
 use Rattle.std.proofs.lemmas.Bool.{and_from}
-use Rattle.four_state.specs.declared.bit.Bit.{Bit}
 use Rattle.four_state.specs.Arithmetic.{natural}
 use Rattle.four_state.specs.Masks.{bits_of_masks}
 use Rattle.four_state.specs.Parts.{index}
@@ -12,7 +11,6 @@ use Rattle.design_model.specs.BodyLaws.{word_indexes}
 use Rattle.design_model.specs.Design.{Design, In, memory_at}
 use Rattle.design_model.specs.Value.{named_word}
 use Rattle.design_model.specs.View.{design_view}
-use Rattle.store_knowledge.specs.body_replay.KnownBits.{on_whole, sure, whole_bits}
 use Rattle.store_knowledge.specs.body_replay.Store.{Kept, join_words, kept_word, may_name, option_kept, read_word, words}
 use Rattle.store_knowledge.proofs.body_store.body_replay.Exact.{on_sure}
 use Rattle.store_knowledge.specs.Knows.{Knows}

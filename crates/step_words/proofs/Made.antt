@@ -1,7 +1,7 @@
 -- The words of which nothing is known are those of the followed memories.
-use Rattle.std.proofs.Common.{◌≡◌, ℕ, zero, suc, ◌+◌, ◌-◌, ◌*◌, ◌<◌, ◌≤◌, Bool, true, false, if◌then◌else◌, List, [], ◌∷◌, ◌++◌, map, length, take, get_or, replicate, None, max, min, nat_le, refl, sym, ap, ap₂, subst, ◌∙◌, arith, le-leb}
+use Rattle.std.proofs.Common.{◌≡◌, ℕ, zero, suc, ◌+◌, ◌-◌, ◌*◌, ◌<◌, Bool, true, false, if◌then◌else◌, List, [], ◌∷◌, ◌++◌, map, length, take, get_or, replicate, None, max, min, refl, sym, ap, ap₂, subst, ◌∙◌, arith, le-leb}
 use Rattle.std.specs.List.{range_with_len}
-use Rattle.std.proofs.lemmas.List.{get_or-replicate, length-map, length-replicate}
+use Rattle.std.proofs.lemmas.List.{get_or-replicate, length-replicate}
 use Rattle.std.proofs.lemmas.List.FromFn.{length-map-range_with_len}
 use Rattle.event_machine.specs.Cell.{Cell}
 use Rattle.body_store.specs.Made.{nothing}
@@ -14,7 +14,7 @@ use Rattle.written_words.specs.declared.range.WordRange.{WordRange}
 use Rattle.step_words.specs.Changes.{word_in}
 use Rattle.step_words.specs.Unknown.{unknown_all, unknown_words}
 use Rattle.step_words.specs.Words.{FitsRanges, HasWords, StepState, words_of}
-use Rattle.step_words.proofs.Lists.{number_in, word_width}
+use Rattle.step_words.proofs.Lists.{number_in}
 
 -- ---- of a list of memories
 

@@ -1,5 +1,5 @@
 -- The words of memories of which nothing is known.
-use Rattle.std.specs.Prelude.{Bool, false, if◌then◌else◌, List, [], ◌∷◌, None, replicate}
+use Rattle.std.specs.Prelude.{Bool, if◌then◌else◌, List, [], ◌∷◌, None, replicate}
 use Rattle.design_model.specs.declared.design.Memory.{Memory}
 use Rattle.store_knowledge.specs.body_replay.KnownBits.{KnownBits}
 use Rattle.written_words.specs.Written.{no_range, range_of}

@@ -1,9 +1,8 @@
 -- The words of memories as they were known when a step began, and which memories have changed in it.
 use Rattle.std.specs.Prelude.{◌≡◌, ◌+◌, ◌-◌, ◌<◌, ◌&&◌, ◌∷◌, ◌++◌, ℕ, Bool, true, false, not, if◌then◌else◌, List, [], length, slice_index_or, slice_set}
 use Rattle.std.specs.List.{list_all, list_any}
-use Rattle.event_machine.specs.Cell.{Cell}
 use Rattle.design_model.specs.BodyLaws.{all_cells, word_indexes}
-use Rattle.design_model.specs.Design.{Design, In, is_memory, memory_at, word_cells}
+use Rattle.design_model.specs.Design.{Design, In, is_memory, memory_at}
 use Rattle.index_sets.specs.Members.{Members}
 use Rattle.replay_steps.specs.replay_model.Step.{surely_differ, surely_same}
 use Rattle.store_knowledge.specs.body_replay.KnownBits.{KnownBits}

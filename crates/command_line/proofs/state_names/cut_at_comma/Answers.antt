@@ -1,4 +1,4 @@
-use Rattle.std.proofs.Common.{◌≡◌, ◌∙◌, ◌∷◌, None, Some, ap₂, lit<, sym}
+use Rattle.std.proofs.Common.{◌∙◌, ◌∷◌, None, Some, ap₂, lit<, sym}
 use Rattle.std.specs.Prelude.{ℕ, ◌==◌}
 use Rattle.std.proofs.lemmas.List.Splits.{slice_split_first}
 use Rattle.std.proofs.lemmas.Str.Pattern.{split_once_first, split_parts}

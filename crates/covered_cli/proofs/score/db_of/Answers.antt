@@ -1,5 +1,4 @@
 use Rattle.std.proofs.Common.{subst}
-use Rattle.std.specs.Prelude.{IfErr, IfOk}
 use Rattle.dump_score.specs.Faults.{IsScoreFault}
 use Rattle.dump_score.specs.Scoring.{IsScoreOfFile}
 use Rattle.covered_cli.proofs.score.db_of.Goals as goal

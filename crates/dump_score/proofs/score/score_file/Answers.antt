@@ -1,5 +1,4 @@
 use Rattle.std.proofs.lemmas.Result.{err_from_is_err_and}
-use Rattle.design_model.specs.View.{design_view}
 use Rattle.dump_replay.specs.replay_core.wake_laws.Laws.{habit_of}
 use Rattle.dump_replay.specs.shown_dumps.Shown.{bound_dump}
 use Rattle.whole_files.proofs.EffectLemmas.{OnlyReads-trans}

@@ -1,4 +1,4 @@
-use Rattle.std.proofs.Common.{◌≡◌, ap, refl, subst, sym}
+use Rattle.std.proofs.Common.{ap, refl, subst, sym}
 use Rattle.point_marks.specs.Marking.{with_doubt}
 use Rattle.point_marks.specs.declared.verdict.Verdict.TheVariants.{Hit}
 use Rattle.signal_marks.specs.Toggled.{toggled, verdict_of}

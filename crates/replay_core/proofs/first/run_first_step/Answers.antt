@@ -1,6 +1,5 @@
-use Rattle.std.proofs.Common.{◌≡◌, ◌∙◌, ◌+◌, ◌≤◌, ℕ, List, length, map, ap, refl, subst, sym, arith}
+use Rattle.std.proofs.Common.{◌≡◌, ◌∙◌, length, map, ap, refl, subst, sym, arith}
 use Rattle.std.proofs.lemmas.List.{length-map}
-use Rattle.four_state.specs.Vector.{Vector}
 use Rattle.design_model.specs.Design.{is_assign, process_at}
 use Rattle.design_model.specs.View.{design_view, process_view}
 use Rattle.code_values.specs.Values.{Values}
@@ -10,7 +9,7 @@ use Rattle.replay_follows.specs.Laws.{first_replay}
 use Rattle.first_step.specs.step_values.Dumped.{AreDumped}
 use Rattle.first_step.specs.step_values.Vectors.{FitsSignals}
 use Rattle.first_step.specs.store_knowledge.Knows.{Knows}
-use Rattle.replay_core.specs.Made.{made_with, parts_with, subject_of}
+use Rattle.replay_core.specs.Made.{made_with, subject_of}
 use Rattle.replay_core.proofs.Given.{cells_given}
 use Rattle.replay_core.proofs.Parts.{first_fits, given_cells}
 use Rattle.replay_core.proofs.Starting.{compared_below, few_run, if_found, if_none, is_first, refuted_at, starts_at, starts_words}

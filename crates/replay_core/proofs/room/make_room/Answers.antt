@@ -1,9 +1,8 @@
-use Rattle.std.proofs.Common.{◌≡◌, ◌∙◌, ◌<◌, ◌≤◌, ℕ, ap, length, map, subst, sym, arith}
+use Rattle.std.proofs.Common.{◌≡◌, ◌∙◌, ◌<◌, ap, length, map, subst, sym, arith}
 use Rattle.std.proofs.lemmas.List.{length-map}
 use Rattle.design_model.specs.View.{design_view, process_view}
 use Rattle.dump_check.specs.Checks.{Checks}
 use Rattle.early_sets.specs.WakeState.{state_of}
-use Rattle.index_sets.specs.Rows.{row_at}
 use Rattle.first_step.specs.step_wakes.Step.{IsOfDesign}
 use Rattle.body_store.specs.Made.{nothing}
 use Rattle.step_words.specs.Words.{FitsRanges, HasWords}

@@ -1,12 +1,10 @@
-use Rattle.std.proofs.Common.{◌≡◌, ◌∙◌, ◌<◌, ℕ, List, flat_map, length, map, ap, subst, sym, arith}
+use Rattle.std.proofs.Common.{◌≡◌, ◌<◌, ℕ, length, map, subst, sym, arith}
 use Rattle.std.specs.List.{All}
 use Rattle.std.proofs.lemmas.List.{length-map}
 use Rattle.std.proofs.lemmas.List.Elements.{All-weaker}
 use Rattle.design_model.specs.View.{design_view, process_view}
 use Rattle.first_step.proofs.Checked.{checked_below}
 use Rattle.first_step.specs.step_values.Dumped.{AreDumped}
-use Rattle.dump_check.specs.Checks.{AgreesAt, IsFirstDifference, last_of_each}
-use Rattle.index_sets.specs.Rows.{row_at}
 use Rattle.replay_core.proofs.Given.{cells_given}
 use Rattle.replay_core.proofs.Parts.{coded, given_cells}
 use Rattle.replay_core.proofs.step.check_step.Goals as goal

@@ -1,4 +1,4 @@
-use Rattle.std.proofs.Common.{◌≡◌, ◌<◌, true, ℕ, length, map, subst, sym, arith}
+use Rattle.std.proofs.Common.{◌≡◌, true, length, map, subst, sym, arith}
 use Rattle.std.proofs.lemmas.List.{length-map}
 use Rattle.design_model.specs.View.{design_view, process_view}
 use Rattle.process_order.specs.Tables.{tables_of}

@@ -1,4 +1,4 @@
-use Rattle.std.proofs.Common.{◌≡◌, ◌∙◌, map, ap}
+use Rattle.std.proofs.Common.{◌∙◌, map, ap}
 use Rattle.replay_core.specs.Codes.{code_list}
 use Rattle.replay_core.proofs.Codes.{signals_are}
 use Rattle.replay_core.proofs.tables.step_tables.Goals as goal

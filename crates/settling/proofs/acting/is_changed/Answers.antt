@@ -1,4 +1,4 @@
-use Rattle.std.proofs.Common.{◌∙◌, ◌<◌, ◌≤◌, ◌&&◌, ap, arith, lt-ltb, nat_lt, sym}
+use Rattle.std.proofs.Common.{◌∙◌, ◌&&◌, ap, arith, lt-ltb, nat_lt, sym}
 use Rattle.std.proofs.lemmas.Bool.{false_from_ne_true, ltb-true}
 use Rattle.body_store.specs.body_calls.Own.{is_in}
 use Rattle.early_sets.proofs.Membership.{is_in_is}

@@ -1,5 +1,4 @@
 use Rattle.std.proofs.Common.{◌≡◌, ℕ, None, take}
-use Rattle.std.specs.List.{All}
 use Rattle.early_sets.specs.WakeState.{state_of}
 use Rattle.step_parts.specs.replay_model.Step.{Closing, Working, first_unsure}
 use Rattle.settled_runs.specs.process_targets.Laws.{WritesSignals}

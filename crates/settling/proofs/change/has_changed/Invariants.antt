@@ -1,5 +1,5 @@
 use Rattle.std.proofs.Common.{◌≡◌, ℕ, false, take}
-use Rattle.std.specs.List.{All, list_any}
+use Rattle.std.specs.List.{list_any}
 use Rattle.early_sets.specs.WakeState.{state_of}
 use Rattle.wake_bits.specs.declared.wakes.Wake.{Wake}
 use Rattle.step_parts.specs.replay_model.Step.{Closing, Working, has_changed}

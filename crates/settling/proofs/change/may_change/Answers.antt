@@ -1,4 +1,4 @@
-use Rattle.std.proofs.Common.{◌∙◌, ◌≡◌, ◌+◌, ◌<◌, ◌≤◌, ap, arith, false, length, not, sym, true}
+use Rattle.std.proofs.Common.{◌∙◌, ◌≡◌, ap, arith, false, not, sym, true}
 use Rattle.design_model.specs.View.{design_view}
 use Rattle.early_sets.specs.Has.{is_in}
 use Rattle.early_sets.specs.WakeState.{state_of}

@@ -1,4 +1,4 @@
-use Rattle.std.proofs.Common.{◌∙◌, ap, length, sym, ◌≡◌}
+use Rattle.std.proofs.Common.{◌∙◌, ap, length, sym}
 use Rattle.known_state.specs.Partly.{Partly}
 use Rattle.settled_targets.proofs.step_values.Forgets.{known_width}
 use Rattle.settling.proofs.Changing.{moved}

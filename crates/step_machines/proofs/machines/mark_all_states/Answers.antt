@@ -1,4 +1,4 @@
-use Rattle.std.proofs.Common.{◌≡◌, ◌≤◌, ◌<◌, List, length, ap, subst, sym, arith}
+use Rattle.std.proofs.Common.{◌<◌, List, length, ap, subst, sym, arith}
 use Rattle.cover_points.specs.design_machines.declared.machine.Machine.{Machine}
 use Rattle.design_model.specs.Design.{Design}
 use Rattle.design_model.specs.View.{design_view}

@@ -1,4 +1,4 @@
-use Rattle.std.proofs.Common.{◌≡◌, ℕ, ◌+◌, ◌<◌, get_or, length, subst, sym, ap, take, arith, ◌∙◌}
+use Rattle.std.proofs.Common.{◌+◌, subst, sym, arith, ◌∙◌}
 use Rattle.std.proofs.lemmas.List.{take_all}
 use Rattle.design_model.specs.Design.{In}
 use Rattle.step_words.proofs.Lists.{in_taken}

@@ -1,4 +1,4 @@
-use Rattle.std.proofs.Common.{◌≡◌, ◌==◌, ◌^◌, ◌-◌, not, ap, bit_and, length, sym, ◌∙◌}
+use Rattle.std.proofs.Common.{◌==◌, ◌^◌, ◌-◌, not, ap, bit_and, length, sym, ◌∙◌}
 use Rattle.std.specs.List.{range_with_len}
 use Rattle.bit_changes.specs.Changes.{bit_at, surely_differ, surely_same}
 use Rattle.step_words.proofs.Masks.{not_all, some_below}

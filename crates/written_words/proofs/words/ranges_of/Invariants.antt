@@ -1,4 +1,4 @@
-use Rattle.std.proofs.Common.{◌≡◌, ◌<◌, ℕ, if◌then◌else◌, length, take}
+use Rattle.std.proofs.Common.{◌≡◌, ◌<◌, ℕ, if◌then◌else◌, length}
 use Rattle.std.specs.Prelude.{slice_index_or}
 use Rattle.design_model.specs.Design.{no_memory}
 use Rattle.written_words.specs.Written.{AreSmall, flag_at, no_range, range_at, range_of}

@@ -1,7 +1,6 @@
 use Rattle.std.proofs.Common.{◌≡◌, ◌↔◌, ◌∙◌, ◌∷◌, [], ℕ, List, ap, map, subst}
 use Rattle.std.specs.List.{Contains}
 use Rattle.index_sets.specs.Rows.{row_at}
-use Rattle.machine_index.specs.Index.{HasSignal}
 use Rattle.machine_index.proofs.Signals.{of_machine}
 use Rattle.machine_index.proofs.index.MachineIndex.new.Goals as goal
 

@@ -1,4 +1,4 @@
-use Rattle.std.proofs.Common.{◌≡◌, ◌∙◌, ap, length, subst, sym}
+use Rattle.std.proofs.Common.{◌∙◌, ap, length}
 use Rattle.design_model.specs.View.{design_view}
 use Rattle.four_state.specs.Vector.{Vector}
 use Rattle.replay_core.proofs.Changes.{given_ready}

@@ -1,11 +1,10 @@
-use Rattle.std.proofs.Common.{◌≡◌, ◌∙◌, ◌<◌, IfNone, IfSome, length, map, ap, refl, subst, sym}
+use Rattle.std.proofs.Common.{◌≡◌, ◌∙◌, IfNone, IfSome, length, ap, refl, subst, sym}
 use Rattle.design_model.specs.View.{design_view}
 use Rattle.replay_core.specs.Closing.{Closes, Counts, Refutes}
 use Rattle.replay_core.specs.Faults.{phase_after}
-use Rattle.replay_core.specs.Fits.{FitsParts, FitsReplay, HaveValues}
-use Rattle.replay_core.specs.Made.{Made, made_with, parts_with}
+use Rattle.replay_core.specs.Fits.{FitsParts, HaveValues}
+use Rattle.replay_core.specs.Made.{made_with, parts_with}
 use Rattle.replay_core.specs.Parts.{IsReady, given_of, made_of, parts_of}
-use Rattle.replay_core.specs.Steps.{CountsSensitive}
 use Rattle.replay_core.specs.declared.replay.Replay.{Replay}
 use Rattle.replay_core.proofs.ClosingStep.{closed_ready, contradiction_after, counts_after, followed_after, is_started, named_after, none_then, refused_after, started_after}
 use Rattle.replay_core.proofs.replay.Replay.close_step.Goals as goal

@@ -1,14 +1,13 @@
-use Rattle.std.proofs.Common.{◌≡◌, ◌∙◌, ◌+◌, ◌<◌, ◌≤◌, ℕ, List, [], false, length, map, IfErr, IfNone, IfSome, None, Option, Some, Ok, Err, ap, refl, subst, sym, arith}
+use Rattle.std.proofs.Common.{◌≡◌, ◌∙◌, ◌<◌, ℕ, [], false, length, map, IfErr, IfNone, IfSome, Option, Some, ap, refl, subst, sym, arith}
 use Rattle.std.proofs.lemmas.List.{length-map}
 use Rattle.design_model.specs.View.{design_view, process_view}
 use Rattle.early_sets.specs.declared.habit.Habit.{Habit}
-use Rattle.design_model.specs.Shows.{BoundDump}
 use Rattle.wake_laws.specs.Laws.{habit_of}
 use Rattle.replay_core.specs.Closing.{RefutesFirst, Starts}
 use Rattle.replay_core.specs.Faults.{IsContradiction, fault_at, phase_after}
-use Rattle.replay_core.specs.Fits.{FitsParts, FitsReplay, HaveValues, IsReplayable, IsUntouched, signal_of}
+use Rattle.replay_core.specs.Fits.{FitsParts, FitsReplay, HaveValues, IsUntouched}
 use Rattle.replay_core.specs.Followed.{HasFollowed}
-use Rattle.replay_core.specs.Made.{HasFollows, IsDumpFor, Made, made_with, parts_with, subject_of}
+use Rattle.replay_core.specs.Made.{HasFollows, IsDumpFor, made_with, parts_with, subject_of}
 use Rattle.replay_core.specs.Parts.{given_of, made_of}
 use Rattle.code_values.specs.Values.{lacks_value}
 use Rattle.dump_check.specs.declared.order.Difference.{Difference}

@@ -1,4 +1,4 @@
-use Rattle.std.proofs.Common.{◌≡◌, ◌+◌, ◌≤◌, None, ap, ap₂, arith, length, map, replicate, sym, ◌∙◌}
+use Rattle.std.proofs.Common.{◌≡◌, None, ap, ap₂, arith, length, map, replicate, sym, ◌∙◌}
 use Rattle.std.proofs.lemmas.List.{length-replicate}
 use Rattle.known_state.specs.Partly.{Partly, are_sure}
 use Rattle.store_knowledge.specs.body_replay.KnownBits.{KnownBits}

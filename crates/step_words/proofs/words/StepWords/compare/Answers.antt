@@ -7,7 +7,7 @@ use Rattle.store_knowledge.specs.Knows.{Knows}
 use Rattle.word_log.specs.Seen.{words_seen}
 use Rattle.written_words.specs.Same.{FollowsAll}
 use Rattle.written_words.specs.Written.{range_at}
-use Rattle.step_words.specs.Words.{AreWordChanges, FitsRanges, HasWords, StepState, after_memories, after_places, unchanged}
+use Rattle.step_words.specs.Words.{AreWordChanges, FitsRanges, HasWords, after_memories, after_places, unchanged}
 use Rattle.step_words.proofs.Compared.{compared_changes, compared_words}
 use Rattle.step_words.proofs.Fitting.{cleared_is, unchanged_fits}
 use Rattle.step_words.proofs.Walking.{memory_more}

@@ -1,4 +1,4 @@
-use Rattle.std.proofs.Common.{◌≡◌, ◌+◌, ◌<◌, ◌≤◌, [], ap, arith, length, sym, ◌∙◌}
+use Rattle.std.proofs.Common.{◌+◌, ◌<◌, [], ap, arith, length, sym, ◌∙◌}
 use Rattle.std.proofs.lemmas.List.{get_or_default}
 use Rattle.design_model.specs.Design.{Design, memory_at}
 use Rattle.step_words.specs.Changes.{word_in}

@@ -1,8 +1,7 @@
-use Rattle.std.proofs.Common.{◌≡◌, ◌+◌, ◌-◌, ◌<◌, ◌≤◌, ◌&&◌, [], Bool, ap, arith, length, not, sym, ◌∙◌}
+use Rattle.std.proofs.Common.{◌-◌, ◌<◌, ◌&&◌, [], Bool, ap, arith, length, not, sym, ◌∙◌}
 use Rattle.std.proofs.lemmas.List.{get_or_default}
-use Rattle.write_log.specs.Entries.{has}
 use Rattle.step_words.specs.Changes.{are_whole}
-use Rattle.step_words.specs.Words.{StepState, is_still, words_of}
+use Rattle.step_words.specs.Words.{StepState, is_still}
 use Rattle.step_words.proofs.Lists.{member_is}
 use Rattle.step_words.proofs.words.StepWords.is_still.Goals as goal
 
