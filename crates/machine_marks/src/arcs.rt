@@ -61,7 +61,16 @@ fn mark_arcs(
 {
     for from in 0..values.len() {
         let left = Chance::of(before, &values[from]);
-        mark_arcs_from(marks, points, number, from as u32, left, values, after, reason);
+        mark_arcs_from(
+            marks,
+            points,
+            number,
+            from as u32,
+            left,
+            values,
+            after,
+            reason,
+        );
     }
 }
 

@@ -71,19 +71,22 @@ impl MachineMarks {
             self.told = true;
         }
         for thing in moves {
-            mark_thing(*thing, design, &self.index, points, values, store, time, marks);
+            mark_thing(
+                *thing,
+                design,
+                &self.index,
+                points,
+                values,
+                store,
+                time,
+                marks,
+            );
         }
     }
 }
 
 /// Marks the states of all machines by what is known at this time.
-fn mark_all_states(
-    design: &Design,
-    points: &Points,
-    store: &Store,
-    time: u64,
-    marks: &mut Marks,
-)
+fn mark_all_states(design: &Design, points: &Points, store: &Store, time: u64, marks: &mut Marks)
     requires lawful { IsLawfulDesign (design_view design.now) }
     requires listed { (machines : List StateNames) × IsPointList (design_view design.now) machines points.now }
     requires few { length points.now.machines.items ≤ 2 ^ 32 }

@@ -29,7 +29,7 @@ loop-to-preserved c =
     let at = bits_read vs i c.index-values-to.result (omega (arith, c.loop-to-test.true)) c.index-values-to.is in
     let d : Chances = record { sure = is_sure chance; possible = is_possible chance } in
     let is : d ≡ chances (Arc k from i) =
-        ap₂ (λ a b. record { sure = a; possible = b }) (c.and-chance.ensures.sure ∙ ap (λ b. is_sure left && b) (c.of.ensures.sure ∙ ap (λ bs. are_surely now bs) at)) (c.and-chance.ensures.possible ∙ ap (λ b. is_possible left && b) (c.of.ensures.possible ∙ ap (λ bs. may_be now bs) at)) in (
+    ap₂ (λ a b. record { sure = a; possible = b }) (c.and-chance.ensures.sure ∙ ap (λ b. is_sure left && b) (c.of.ensures.sure ∙ ap (λ bs. are_surely now bs) at)) (c.and-chance.ensures.possible ∙ ap (λ b. is_possible left && b) (c.of.ensures.possible ∙ ap (λ bs. may_be now bs) at)) in (
       c.mark_point.ensures.points,
       both_marked c.args.points.now c.args.reason.signal c.args.reason.time (is_arc_from k i from) (is_point (Arc k from i)) (is_arc_from k (i + 1) from) chances (λ q. d) chances c.args.marks.now.verdicts c.loop-to.marks.verdicts c.mark_point.new.marks.verdicts
           c.loop-to.invariant.1 c.mark_point.ensures.verdicts (arc_apart k i from) (next_arcs k i from) (λ q e. refl) (λ q e. subst (λ (r : MachinePoint). d ≡ chances r) (is_same (Arc k from i) q e) is),

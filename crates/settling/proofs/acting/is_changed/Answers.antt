@@ -12,6 +12,6 @@ returns-then-thing-signals c =
 pub returns : goal.returns
 returns c =
     sym (ap (λ t. t && is_in c.args.changed.now.items c.args.thing) (false_from_ne_true (nat_lt c.args.thing c.args.signals) (λ e.
-        let below = ltb-true c.args.thing c.args.signals e in
-        let past = c.if-thing-signals.false in
-        omega (arith, below, past))))
+    let below = ltb-true c.args.thing c.args.signals e in
+    let past = c.if-thing-signals.false in
+    omega (arith, below, past))))

@@ -30,20 +30,20 @@ mark_states-requires-clause-few c =
 
 pub loop-number-preserved : goal.loop-number-preserved
 loop-number-preserved c = (
-    c.mark_states.ensures.points,
-    λ k knows.
-        let d = design_view c.args.design.now in
-        let list = c.requires.listed in
-        let ps = c.args.points.now in
-        let i = c.loop-number.number in
-        let x = c.machine-item.result in
-        let middle = c.loop-number.marks.verdicts in
-        let after = c.mark_states.new.marks.verdicts in
-        let at = found_at d list.0 ps list.1 i x c.deref-machine-items.result.now c.deref-machine-items.ensures.value c.loop-number-test.true c.machine-item.is in
-        next_machine d list.0 ps list.1 k c.args.time i c.args.marks.now.verdicts middle after (c.loop-number.invariant.1 k knows)
-        (subst (λ (y : Machine). MarksStates ps i y c.args.time (known_bits d k y.signal) middle after) at
-        (subst (λ bs. MarksStates ps i x c.args.time bs middle after) (c.known_signal-now.ensures d k knows) c.mark_states.ensures.states)),
-  )
+  c.mark_states.ensures.points,
+  λ k knows.
+      let d = design_view c.args.design.now in
+      let list = c.requires.listed in
+      let ps = c.args.points.now in
+      let i = c.loop-number.number in
+      let x = c.machine-item.result in
+      let middle = c.loop-number.marks.verdicts in
+      let after = c.mark_states.new.marks.verdicts in
+      let at = found_at d list.0 ps list.1 i x c.deref-machine-items.result.now c.deref-machine-items.ensures.value c.loop-number-test.true c.machine-item.is in
+      next_machine d list.0 ps list.1 k c.args.time i c.args.marks.now.verdicts middle after (c.loop-number.invariant.1 k knows)
+      (subst (λ (y : Machine). MarksStates ps i y c.args.time (known_bits d k y.signal) middle after) at
+      (subst (λ bs. MarksStates ps i x c.args.time bs middle after) (c.known_signal-now.ensures d k knows) c.mark_states.ensures.states)),
+)
 
 pub returns-clause-states : goal.returns-clause-states
 returns-clause-states c = λ k knows.

@@ -77,38 +77,38 @@ mark_machine-requires-clause-few c =
 
 pub loop-number-preserved : goal.loop-number-preserved
 loop-number-preserved c = (
-    c.mark_machine.ensures.points,
-    λ st moving.
-        let d = design_view c.args.design.now in
-        let fits = c.requires.design in
-        let ps = c.args.points.now in
-        let ns = c.of_signal-numbers.result.now in
-        let i = c.loop-number.number-index in
-        let k = get_or ns i 0 in
-        let s = c.args.thing in
-        let l = c.loop-number-test.true in
-        let inside : s < length c.args.design.now.signals = omega (arith, c.if-thing-len.false, c.len.ensures) in
-        let has = (c.of_signal-numbers.ensures ps.machines.items (length c.args.design.now.signals) k fits.index inside).0 (i, l, get_or_default ns i k 0 l) in
-        let x = c.index-machines-number.result in
-    let within = subst (λ (ms : List Machine). k < length ms) (sym c.as_slice-machines.ensures.value) has.0 in
-        let at = found_at d fits.machines ps fits.listed k x c.as_slice-machines.result.now c.as_slice-machines.ensures.value within c.index-machines-number.is in
-        let signal : x.signal ≡ s = ap (λ (y : Machine). y.signal) at ∙ has.1 in
-        let same : d ≡ st.design = sym c.requires.known.1.design ∙ moving.values.knows.design in
-        let listed = subst (λ e. IsPointList e fits.machines ps) same fits.listed in
-        let first = c.args.marks.now.verdicts in
-        let middle = c.loop-number.marks.verdicts in
-        let after = c.mark_machine.new.marks.verdicts in
-        let old : c.before-before.result.bits ≡ known_bits st.design st.start.kept s = ap (λ q. q.bits) c.before-before.ensures ∙ moving.values.before s (subst (λ (e : Design). s < length e.signals) same inside) moving.moves in
-        let new : c.known_signal-after.result.bits ≡ known_bits st.design (all_run st).kept s = c.known_signal-after.ensures st.design (all_run st).kept moving.values.knows in
-        let one =
-            subst (λ (y : Machine). MarksMachine ps k y st.time (known_bits st.design st.start.kept y.signal) (known_bits st.design (all_run st).kept y.signal) middle after) at
-            (subst (λ z. MarksMachine ps k x st.time (known_bits st.design st.start.kept z) (known_bits st.design (all_run st).kept z) middle after) (sym signal)
-            (subst (λ t. MarksMachine ps k x t (known_bits st.design st.start.kept s) (known_bits st.design (all_run st).kept s) middle after) (sym moving.time)
-            (subst (λ bs. MarksMachine ps k x c.args.time bs (known_bits st.design (all_run st).kept s) middle after) old
-            (subst (λ bs. MarksMachine ps k x c.args.time c.before-before.result.bits bs middle after) new c.mark_machine.ensures.machine)))) in
-        subst (λ ks. MarksNumbers st ps ks s first after) (sym (take_more ns i 0 l))
-        (one_number st fits.machines ps listed k s has.1 _ first middle after (c.loop-number.invariant.1 st moving) one),
-  )
+  c.mark_machine.ensures.points,
+  λ st moving.
+      let d = design_view c.args.design.now in
+      let fits = c.requires.design in
+      let ps = c.args.points.now in
+      let ns = c.of_signal-numbers.result.now in
+      let i = c.loop-number.number-index in
+      let k = get_or ns i 0 in
+      let s = c.args.thing in
+      let l = c.loop-number-test.true in
+      let inside : s < length c.args.design.now.signals = omega (arith, c.if-thing-len.false, c.len.ensures) in
+      let has = (c.of_signal-numbers.ensures ps.machines.items (length c.args.design.now.signals) k fits.index inside).0 (i, l, get_or_default ns i k 0 l) in
+      let x = c.index-machines-number.result in
+      let within = subst (λ (ms : List Machine). k < length ms) (sym c.as_slice-machines.ensures.value) has.0 in
+      let at = found_at d fits.machines ps fits.listed k x c.as_slice-machines.result.now c.as_slice-machines.ensures.value within c.index-machines-number.is in
+      let signal : x.signal ≡ s = ap (λ (y : Machine). y.signal) at ∙ has.1 in
+      let same : d ≡ st.design = sym c.requires.known.1.design ∙ moving.values.knows.design in
+      let listed = subst (λ e. IsPointList e fits.machines ps) same fits.listed in
+      let first = c.args.marks.now.verdicts in
+      let middle = c.loop-number.marks.verdicts in
+      let after = c.mark_machine.new.marks.verdicts in
+      let old : c.before-before.result.bits ≡ known_bits st.design st.start.kept s = ap (λ q. q.bits) c.before-before.ensures ∙ moving.values.before s (subst (λ (e : Design). s < length e.signals) same inside) moving.moves in
+      let new : c.known_signal-after.result.bits ≡ known_bits st.design (all_run st).kept s = c.known_signal-after.ensures st.design (all_run st).kept moving.values.knows in
+      let one =
+      subst (λ (y : Machine). MarksMachine ps k y st.time (known_bits st.design st.start.kept y.signal) (known_bits st.design (all_run st).kept y.signal) middle after) at
+      (subst (λ z. MarksMachine ps k x st.time (known_bits st.design st.start.kept z) (known_bits st.design (all_run st).kept z) middle after) (sym signal)
+      (subst (λ t. MarksMachine ps k x t (known_bits st.design st.start.kept s) (known_bits st.design (all_run st).kept s) middle after) (sym moving.time)
+      (subst (λ bs. MarksMachine ps k x c.args.time bs (known_bits st.design (all_run st).kept s) middle after) old
+      (subst (λ bs. MarksMachine ps k x c.args.time c.before-before.result.bits bs middle after) new c.mark_machine.ensures.machine)))) in
+      subst (λ ks. MarksNumbers st ps ks s first after) (sym (take_more ns i 0 l))
+      (one_number st fits.machines ps listed k s has.1 _ first middle after (c.loop-number.invariant.1 st moving) one),
+)
 
 pub returns-clause-machines : goal.returns-clause-machines
 returns-clause-machines c = λ st moving.
