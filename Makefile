@@ -1,6 +1,7 @@
 # make example        builds the program, scores two dumps of examples/pads, merges their databases, shows the report and
 #                     writes the tracefile, scores and reports examples/alu, and scores, merges and reports the two dumps
-#                     of examples/uart, and that of examples/door with its state machine and the late habit
+#                     of examples/uart, that of examples/door with its state machine and the late habit, and the two of
+#                     examples/fifo, which has a memory
 # make try            shows the example with a program that is not proved, in a minute or two
 # make test           the gate: proves every crate, tries the wrong bodies, runs the tests, the program and the example cases
 # make cases          builds the program and runs the example cases of the stage that is reached; so does make rows
@@ -17,6 +18,7 @@ PADS = examples/pads
 ALU = examples/alu
 UART = examples/uart
 DOOR = examples/door
+FIFO = examples/fifo
 DOCUMENTS = USER_GUIDE.md LANGUAGE.md FORMATS.md
 
 .PHONY: build example try test cases rows built-cases wrong-bodies install
@@ -39,6 +41,10 @@ example: build
 	cd $(DOOR) && COVERED=../../$(PROGRAM) \
 	  && $$COVERED score -t door -i tb.dut -v door.v -vcd door.vcd -o late.db -late -states door=state:CLOSED,OPENING,OPEN,CLOSING \
 	  && $$COVERED report -d v late.db
+	cd $(FIFO) && COVERED=../../$(PROGRAM) \
+	  && $$COVERED score -t fifo -i tb.dut -v fifo.v -vcd some.vcd -o some.db \
+	  && $$COVERED score -t fifo -i tb.dut -v fifo.v -vcd filled.vcd -o filled.db \
+	  && $$COVERED report -m m -d v some.db && $$COVERED merge -o all.db some.db filled.db && $$COVERED report -m ltcm all.db
 
 try:
 	@echo 'covered: this program is compiled without any proof; `make example` proves it first'

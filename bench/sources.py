@@ -4,8 +4,9 @@
     sources.py PROGRAM
 
 Each source is scored three times: with a byte of no token at its end, which the lexer refuses when it has all else; with
-a module that does not end, which the parser refuses; and whole. The whole design has processes, so it is refused after
-elaboration. What each stage takes is the difference. The least processor time of three runs is taken.
+a module that does not end, which the parser refuses; and whole. The words name a state machine of a module that no source
+has, so the whole design is refused after elaboration, before its points are listed. What each stage takes is the
+difference. The least processor time of three runs is taken.
 """
 import os
 import resource
@@ -63,7 +64,8 @@ def seconds(program, source, top, answer):
     """The least time in which the program refuses the source with this answer."""
     with open("source.v", "w") as file:
         file.write(source)
-    words = [program, "score", "-t", top, "-i", "tb.dut", "-v", "source.v", "-vcd", "none.vcd", "-o", "none.db"]
+    words = [program, "score", "-t", top, "-i", "tb.dut", "-v", "source.v", "-vcd", "none.vcd", "-o", "none.db",
+             "-states", "absent=state:A,B"]
     least = None
     for _ in range(3):
         start = used()
@@ -79,7 +81,7 @@ def stages(program, source, top):
     """The seconds of the lexer with the reading of the file, of the parser, and of elaboration."""
     lexed = seconds(program, source + "\x01", top, "BadByte")
     parsed = seconds(program, source + "module unended;", top, "EarlyEnd")
-    whole = seconds(program, source, top, "NotYet")
+    whole = seconds(program, source, top, "NoState")
     return lexed, parsed - lexed, whole - parsed
 
 
