@@ -7,8 +7,7 @@
 //! | `time 15` | the time of the next runs; before the first such line it is 5 |
 //! | `points l1 c1:0?a l2?a@15 r0 w3` | the points that are hit or left open so far, in the order of points; a doubt has its time where that is not 5 |
 
-ghost use Rattle.std.specs.Prelude.{◌≡◌, ◌≤◌, IfOk, length};
-ghost use Rattle.cover_marks.specs.Marks.{AreMarksOf};
+ghost use Rattle.std.specs.Prelude.{◌≤◌, length};
 ghost use Rattle.cover_points.specs.Listed.{points_of};
 ghost use Rattle.cover_points.specs.Visits.{AreApart, AreOnce, ArePlaced};
 ghost use Rattle.design_model.specs.Lawful.{IsLawfulDesign};
@@ -196,9 +195,10 @@ fn new_notes<'a>(
     points: &'a Points,
 ) -> Result<MarkNotes<'a>, NoMemory>
     requires lawful { IsLawfulDesign (design_view design.now) }
+    requires apart { AreApart points.now }
+    requires once { AreOnce points.now }
     requires placed { ArePlaced points.now }
     requires few { length (points_of points.now) ≤ MOST_POINTS }
-    ensures { IfOk result (λ notes. notes.points.now ≡ points.now × AreMarksOf points.now notes.marks) }
 {
     let marks = Marks::new(alloc, points)?;
     let followed = vec![in alloc; false; design.memories.len()]?;
