@@ -1,12 +1,14 @@
-ghost use Rattle.std.specs.Prelude.{◌≡◌, ◌<◌, ◌≤◌, ◌++◌, ◌∷◌, [], ℕ, List, IfOk, length, slice_index_or, slice_set};
+ghost use Rattle.std.specs.Prelude.{◌≡◌, ◌↔◌, ◌<◌, ◌≤◌, ◌++◌, ◌∷◌, [], ℕ, List, IfOk, IsTrue, length, slice_index_or, slice_set};
 ghost use Rattle.point_marks.specs.Marking.{IsMarked, IsVerdict, Marking, doubt_of, hit_of, with_doubt};
 ghost use Rattle.point_marks.specs.declared.verdict.Doubt.{Doubt as TheDoubt};
 ghost use Rattle.cover_points.specs.Listed.{points_of};
 ghost use Rattle.cover_points.specs.Visits.{AreApart, AreOnce, ArePlaced, IsMachinePointAt, IsVisitOf};
 ghost use Rattle.cover_points.specs.declared.listing.Points.{Points as ThePoints};
 ghost use Rattle.cover_marks.specs.Marks.{AreMarksOf};
+ghost use Rattle.cover_marks.specs.Owners.{IsSettled};
 
 use crate::index::PointIndex;
+use crate::open::OpenPoints;
 use cov_host::NoMemory;
 use cover_points::{MOST_POINTS, MachinePoint, Points, Visit};
 use point_marks::{PointMarks, Verdict};
@@ -16,6 +18,7 @@ use std::alloc::Global;
 pub struct Marks {
     index: PointIndex,
     verdicts: PointMarks,
+    open_points: OpenPoints,
 }
 
 // Written out so that a crate which lets one go does not prove again how each of its parts is let go.
@@ -24,6 +27,7 @@ impl Drop for Marks {
         let Marks {
             index: _,
             verdicts: _,
+            open_points: _,
         } = self;
     }
 }
@@ -40,7 +44,12 @@ impl Marks {
     {
         let index = PointIndex::new(alloc, points)?;
         let verdicts = PointMarks::new(alloc, count_of(points))?;
-        Ok(Marks { index, verdicts })
+        let open_points = OpenPoints::new(alloc, points)?;
+        Ok(Marks {
+            index,
+            verdicts,
+            open_points,
+        })
     }
 
     /// The number of the point of a visit, and some number where no point has the visit. It takes constant time and no
@@ -66,6 +75,8 @@ impl Marks {
         ensures verdicts { self.new.verdicts ≡ slice_set self.old.verdicts point Verdict.Hit }
         ensures markings { (markings : List Marking) → IsMarked markings self.old.verdicts → IsMarked (markings ++ hit_of point ∷ []) self.new.verdicts }
     {
+        let before = self.verdicts.verdict(point);
+        self.open_points.hit(point, before);
         self.verdicts.hit(point);
     }
 
@@ -88,6 +99,14 @@ impl Marks {
         ensures markings { (markings : List Marking) → IsMarked markings self.now.verdicts → IsVerdict markings point result }
     {
         self.verdicts.verdict(point)
+    }
+
+    /// Whether all line and node points of a process are hit, as they are where it has none. It takes constant time and no
+    /// memory.
+    pub fn is_settled(&self, process: u32) -> bool
+        ensures { (points : ThePoints) → AreMarksOf points self.now → (IsTrue result ↔ IsSettled points self.now.verdicts process) }
+    {
+        self.open_points.is_settled(process)
     }
 }
 

@@ -3,6 +3,7 @@ pub mod Example
 pub mod Found
 pub mod MentionedWords
 pub mod Reports
+pub mod Settled
 pub mod RunNotes
 pub mod NotedWrites
 pub mod Listed

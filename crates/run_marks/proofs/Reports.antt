@@ -28,6 +28,7 @@ use Rattle.block_runs.specs.declared.notes.Doubt.{Doubt as RunDoubt}
 use Rattle.term_replay.specs.Noted.{spot_of}
 use Rattle.term_replay.specs.declared.notes.Spot.{Spot as SpotNow}
 use Rattle.run_marks.specs.Reported.{AreNotesOf, HasReported, IsRightStart, IsSpotOf, RunStart}
+use Rattle.run_marks.proofs.Settled.{verdicts_stay}
 
 -- a point with the visit of a spot has the spot as a key
 key_of_visit : (d : Design) (x : Point) (p : ℕ) (s : Spot) → visit_of x ≡ Some (visit_at p s) → IsSpotOf d p s → IsKeyOf d x (of_process p s)
@@ -84,6 +85,10 @@ module _ (s : RunStart) (ns : List Note) (n : Note) (vs : List Verdict) (h : Rep
   pub none_more : ((k : ℕ) → IsVisitOf s.points k (visit_at s.process n.spot) → ⊥) → Reports s (ns ++ n ∷ []) vs
   none_more none = longer vs (λ right v own. other_kept s.design s.points (s.earlier ++ markings_by s.process ns) (marking_by s.process n) vs v (λ k l key. none k (l, visit_of_key s.design (point_at s.points k) s.process n.spot key)))
 
+  -- a spot of a point that is hit already
+  pub settled_more : ((k : ℕ) → IsVisitOf s.points k (visit_at s.process n.spot) → verdict_at vs k ≡ Hit) → Reports s (ns ++ n ∷ []) vs
+  settled_more hit = longer vs (λ right v own. verdicts_stay s.design s.points (s.earlier ++ markings_by s.process ns) (marking_by s.process n) vs v (λ k l key. hit k (l, visit_of_key s.design (point_at s.points k) s.process n.spot key)))
+
   module _ (k : ℕ) (at : IsVisitOf s.points k (visit_at s.process n.spot)) where
     pub hit_more : n.doubt ≡ None → Reports s (ns ++ n ∷ []) (set vs k Hit)
     hit_more hit = longer (set vs k Hit) (λ right v own. hit_set s.design s.points (s.earlier ++ markings_by s.process ns) (marking_by s.process n) vs k right.apart right.once v at.0 (key_of_visit s.design (point_at s.points k) s.process n.spot at.1 own) hit)
@@ -128,12 +133,24 @@ module _ (p : ℕ) (ps : Points) (m after : Marks) (spot : SpotNow) (s : RunStar
     verdicts = subst (Reports s (ns ++ note_of spot (Some y) ∷ [])) (sym is) (doubt_more s ns (note_of spot (Some y)) m.verdicts h.verdicts k (visit_same k at) (record { thing = y.thing; time = y.time }) refl);
   }
 
+  visit_back : (k : ℕ) → IsVisitOf s.points k (visit_at s.process (spot_of spot)) → IsVisitOf ps k (visit_at p (spot_of spot))
+  visit_back k at = subst (λ (q : ℕ). IsVisitOf ps k (visit_at q (spot_of spot))) (sym h.process) (subst (λ (qs : Points). IsVisitOf qs k (visit_at s.process (spot_of spot))) (sym h.points) at)
+
+  marks_back : AreMarksOf ps m
+  marks_back = subst (λ (qs : Points). AreMarksOf qs m) (sym h.points) h.marks
+
+  pub reports_settled : (doubt : Option RunDoubt) → (AreMarksOf ps m → (k : ℕ) → IsVisitOf ps k (visit_at p (spot_of spot)) → verdict_at m.verdicts k ≡ Hit) → HasReported s (ns ++ note_of spot doubt ∷ []) p ps m
+  reports_settled doubt hit = record {
+    process = h.process;
+    points = h.points;
+    marks = h.marks;
+    verdicts = settled_more s ns (note_of spot doubt) m.verdicts h.verdicts (λ k at. hit marks_back k (visit_back k at));
+  }
+
   pub reports_nothing : (doubt : Option RunDoubt) → (AreMarksOf ps m → (k : ℕ) → IsVisitOf ps k (visit_at p (spot_of spot)) → ⊥) → HasReported s (ns ++ note_of spot doubt ∷ []) p ps m
-  reports_nothing doubt none =
-      let marks = subst (λ (qs : Points). AreMarksOf qs m) (sym h.points) h.marks in
-      record {
-        process = h.process;
-        points = h.points;
-        marks = h.marks;
-        verdicts = none_more s ns (note_of spot doubt) m.verdicts h.verdicts (λ k at. none marks k (subst (λ (q : ℕ). IsVisitOf ps k (visit_at q (spot_of spot))) (sym h.process) (subst (λ (qs : Points). IsVisitOf qs k (visit_at s.process (spot_of spot))) (sym h.points) at)));
-      }
+  reports_nothing doubt none = record {
+    process = h.process;
+    points = h.points;
+    marks = h.marks;
+    verdicts = none_more s ns (note_of spot doubt) m.verdicts h.verdicts (λ k at. none marks_back k (visit_back k at));
+  }

@@ -6,7 +6,7 @@ ghost use Rattle.cover_points.specs.Listed.{points_of};
 ghost use Rattle.run_marks.specs.Reported.{HasListed, RunStart};
 ghost use Rattle.written_words.specs.Written.{WrittenState};
 
-use crate::spots::find;
+use crate::spots::{find, is_settled};
 use block_runs::{BlockNotes, Doubt};
 use cover_marks::Marks;
 use cover_points::Points;
@@ -44,13 +44,17 @@ impl<'a> BlockNotes for MarkNotes<'a> {
 impl<'a> MarkNotes<'a> {
     ghost use Rattle.run_marks.specs.Reported.{HasReported};
 
-    /// Marks the point of a spot, if there is one.
+    /// Marks the point of a spot, if there is one. All that is noted of lines and nodes of a process is left out once its points
+    /// are hit, since a hit stays.
     fn mark(&mut self, spot: Spot, doubt: Option<Doubt>)
         ensures process { self.new.process ≡ self.old.process }
         ensures points { self.new.points.now ≡ self.old.points.now }
         ensures written { self.new.written ≡ self.old.written }
         ensures marked { (start : RunStart) (ns : List Note) → HasReported start ns self.old.process self.old.points.now self.old.marks → HasReported start (ns ++ note_of spot doubt ∷ []) self.new.process self.new.points.now self.new.marks }
     {
+        if is_settled(&self.marks, self.process, spot) {
+            return;
+        }
         if let Some(point) = find(self.points, &self.marks, self.process, spot) {
             match doubt {
                 None => self.marks.hit(point),

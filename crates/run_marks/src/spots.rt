@@ -6,7 +6,9 @@ ghost use Rattle.cover_points.specs.Visits.{IsVisitOf};
 ghost use Rattle.cover_points.specs.declared.listing.Points.{Points as ThePoints};
 ghost use Rattle.cover_points.specs.declared.visit.Visit.TheVariants.{Line, Node};
 ghost use Rattle.cover_marks.specs.Marks.{AreMarksOf};
+ghost use Rattle.mark_laws.specs.Marked.{verdict_at};
 ghost use Rattle.mark_laws.specs.Numbered.{visit_at};
+ghost use Rattle.point_marks.specs.declared.verdict.Verdict.TheVariants.{Hit};
 ghost use Rattle.run_marks.specs.Reported.{word_visit};
 
 use cover_marks::Marks;
@@ -14,6 +16,18 @@ use cover_points::{IndexPoint, Points, Visit};
 use design_model::NodeCase;
 use term_replay::Spot;
 use text_points::{LinePoint, NodePoint};
+
+/// Whether a note of the spot changes no mark, since all line and node points of the process are hit. It takes constant time and
+/// no memory.
+pub(crate) fn is_settled(marks: &Marks, process: u32, spot: Spot) -> bool
+    ensures { IsTrue result → (points : ThePoints) (k : ℕ) → AreMarksOf points marks.now → IsVisitOf points k (visit_at process (spot_of spot)) → verdict_at marks.now.verdicts k ≡ Hit }
+{
+    match spot {
+        Spot::Line(_) => marks.is_settled(process),
+        Spot::Node { .. } => marks.is_settled(process),
+        Spot::WordRead { .. } | Spot::WordWrite { .. } => false,
+    }
+}
 
 /// The number of the point of a spot of a process, if there is one. It takes constant time and no memory.
 #[tactic(auto, using(crate::proofs::Reports::found_at))]

@@ -2,8 +2,13 @@ use Rattle.std.proofs.Common.{Option, [], ◌∷◌, ◌++◌, refl, subst, sym}
 use Rattle.block_runs.specs.Notes.{note_of}
 use Rattle.block_runs.specs.declared.notes.Doubt.{Doubt}
 use Rattle.run_marks.specs.Reported.{HasReported}
-use Rattle.run_marks.proofs.Reports.{reports_doubt, reports_hit, reports_nothing}
+use Rattle.run_marks.proofs.Reports.{reports_doubt, reports_hit, reports_nothing, reports_settled}
 use Rattle.run_marks.proofs.notes.MarkNotes.mark.Goals as goal
+
+pub returns-then-is_settled-clause-marked : goal.returns-then-is_settled-clause-marked
+returns-then-is_settled-clause-marked c =
+    let x = c.args.self.now in
+    λ s ns h. reports_settled x.process x.points.now x.marks x.marks c.args.spot s ns h c.args.doubt (λ marks k at. c.is_settled.ensures c.if-is_settled.true x.points.now k marks at)
 
 pub returns-in-None-clause-marked : goal.returns-in-None-clause-marked
 returns-in-None-clause-marked c =
