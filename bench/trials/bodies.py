@@ -3,6 +3,7 @@ from . import vectors
 from .expressions import random_number
 from .statements import Arm, Block, Case, Empty, For, If, Set, Task, leaves, read_names, statements_in
 from .terms import Binary, Bit, Constant, Name, decimal
+from .words import WordOf
 
 
 class Bodies:
@@ -11,6 +12,7 @@ class Bodies:
     def __init__(self, expressions, targets, new_loop):
         self.make, self.chance, self.targets = expressions, expressions.chance, targets
         self.new_loop, self.loops, self.reads_own, self.blocks = new_loop, [], 0.0, 0
+        self.memories = []
 
     def term(self, depth=2):
         """An expression that may read the targets too."""
@@ -33,7 +35,14 @@ class Bodies:
         """Targets that one assignment may write."""
         return self.targets
 
+    def word(self):
+        """An assignment to a word of a memory that the block writes."""
+        name = self.chance.choice(self.memories)
+        return self.set(WordOf(name, self.make.word_index(name)), self.term(self.chance.choice([0, 0, 1, 2])))
+
     def assignment(self):
+        if self.memories and (not self.targets or self.chance.random() < 0.5):
+            return self.word()
         return self.set(self.make.target(self.together()), self.term(self.chance.choice([0, 1, 2, 3])))
 
     def statement(self, depth):
@@ -46,7 +55,7 @@ class Bodies:
         name = None
         if self.chance.random() < 0.1:
             self.blocks += 1
-            name = f"block_{self.targets[0]}_{self.blocks}"
+            name = f"block_{(self.targets + self.memories)[0]}_{self.blocks}"
         return Block([self.statement(depth) for _ in range(self.chance.choice([0, 1, 2, 2, 3]))], name)
 
     def branch(self, depth):

@@ -1,19 +1,21 @@
 """A copy of a design with probes, and the bench that simulates it and prints what is settled.
 
-Each instance of the copy is a module of its own. Each of its processes has a vector of probes with one bit for each statement and
-each case of a counted node: a block sets it to what its last evaluation visited, and the bench has those of continuous assignments
-set at settled times. Nothing of the design reads a probe. A block under `*` also reads whole what its text reads, since Icarus
-Verilog wakes such a block only by the bits that it reads, where the standard says that a name stands for the signal
-(IEEE 1364-2001, 9.7.5).
+Each instance of the copy is a module of its own. Each of its processes has a vector of probes with one bit for each statement,
+each case of a counted node, and each word of a memory that it reads or writes: a block sets it to what its last evaluation
+visited, and the bench has those of continuous assignments set at settled times. Nothing of the design reads a probe. A block under
+`*` also reads whole what its text reads, and each word of a memory, since Icarus Verilog wakes such a block only by the bits and
+words that it reads, where the standard says that a name stands for the signal (IEEE 1364-2001, 9.7.5).
 
 A clocked block is evaluated any number of times in a step. Its probes have what all of these visit, and each prints the values with
 which it begins.
 """
 from . import vectors
 from .designs import Clocked
-from .statements import Block, Case, Empty, Task
-from .terms import Binary, Constant, cases_of
+from .statements import Block, Case, Empty, Set, Task, leaves
+from .terms import Binary, Constant, alone, cases_of
 from .texts import ModuleText
+from .things import Word, memories_of
+from .words import WordOf, read_key, write_key
 
 ANY_TURN = Constant(vectors.of_number(32, 0), True)
 
@@ -54,10 +56,23 @@ class Probes:
             names.append(name)
         return lines, names
 
+    def words(self, term, scope, key):
+        """Statements that set the probe of the word that a term names."""
+        _, width, signed = alone(term.index, scope)
+        name = self.variable(width, signed)
+        words = scope.find(term.name()).words
+        return [f"{name} = {term.index.text()};", *(f"if ({name} == {it.at}) {self.bit(key(it))} = 1'b1;" for it in words)]
+
+    def of_target(self, target, scope):
+        """Statements that set the probes of the words that an assignment writes."""
+        return [line for leaf in leaves(target) if isinstance(leaf, WordOf) for line in self.words(leaf, scope, write_key)]
+
     def of_term(self, term, width, signed, scope):
-        """Statements that set the probes of the counted nodes in a term."""
+        """Statements that set the probes of the counted nodes and of the words in a term."""
         lines = []
         for inner, w, s in term.within(scope, width, signed):
+            if isinstance(inner, WordOf):
+                lines += self.words(inner, scope, read_key)
             if not inner.node:
                 continue
             more, names = self.truths(scope, inner, w, s)
@@ -71,12 +86,17 @@ class Probes:
 class CopyText(ModuleText):
     """Writes the copy of one instance."""
 
-    def __init__(self, made, processes):
+    def __init__(self, made, processes, joined):
         super().__init__(made.module, copy_name(made))
-        self.made, self.waiting, self.probes, self.scopes = made, processes, [], [made.scope]
+        self.made, self.waiting, self.probes, self.scopes = made, [*processes, *joined], [], [made.scope]
+        self.joined = joined
 
     def write(self):
         lines = super().write()
+        end = lines.pop()
+        for _ in self.joined:
+            self.continuous(self.next_probes())
+        lines.append(end)
         declared = ["  " + line for probes in self.probes for line in probes.declarations()]
         return [lines[0], *declared, *lines[1:]]
 
@@ -93,11 +113,14 @@ class CopyText(ModuleText):
     def assign(self, item):
         super().assign(item)
         for _ in item.sets:
-            probes = self.next_probes()
-            self.put(f"always @(tb.tick) begin probe_{probes.number} = 0;")
-            for scope, term, width, signed in probes.process.shaped_terms():
-                self.put_all(probes.of_term(term, width, signed, scope))
-            self.put("end")
+            self.continuous(self.next_probes())
+
+    def continuous(self, probes):
+        """Sets the probes of a continuous assignment, where the bench says that all is settled."""
+        self.put(f"always @(tb.tick) begin probe_{probes.number} = 0;")
+        for scope, term, width, signed in probes.process.shaped_terms():
+            self.put_all(probes.of_term(term, width, signed, scope))
+        self.put("end")
 
     def put_all(self, lines):
         for line in lines:
@@ -135,6 +158,8 @@ class CopyText(ModuleText):
         self.put("end")
 
     def local_name(self, signal):
+        if isinstance(signal, Word):
+            return signal.name
         return next(name for name, it in self.made.scope.names.items() if it is signal)
 
     def statement(self, statement):
@@ -160,6 +185,8 @@ class CopyText(ModuleText):
         else:
             for term, width, signed in shaped:
                 self.put_all(probes.of_term(term, width, signed, scope))
+        if isinstance(statement, Set):
+            self.put_all(probes.of_target(statement.target, scope))
 
     def probe_labels(self, statement, shaped):
         """The label that matches first, and then the nodes of the labels up to it."""
@@ -193,7 +220,9 @@ class Copy:
         self.flat, self.probes, lines = flat, [], []
         for made in flat.instances:
             own = [process for process in flat.processes if process.counted and process.scope is made.scope]
-            text = CopyText(made, own)
+            joined = [process for process in flat.processes
+                      if not process.counted and process.scope is made.scope and memories_of(process.mentions())]
+            text = CopyText(made, own, joined)
             lines += text.write()
             self.probes += [(made.path, probes) for probes in text.probes]
         self.text = "\n".join(lines) + "\n"

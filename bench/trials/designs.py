@@ -8,35 +8,7 @@ from functools import wraps
 from . import terms, vectors
 from .statements import Set, assign, possible_masks, read_names, statements_in, united
 from .terms import Constant, Name
-
-
-@dataclass(eq=False)
-class Signal:
-    """A signal of the flat design: its instance by path, its name, and its range."""
-    path: str
-    name: str
-    high: int
-    low: int
-    ranged: bool
-    signed: bool
-    is_input: bool
-    kind: str
-
-    @property
-    def width(self):
-        return abs(self.high - self.low) + 1
-
-    @property
-    def full_name(self):
-        return f"{self.path}.{self.name}"
-
-    def offset(self, index):
-        """How far the bit with this index is above the lowest."""
-        return index - self.low if self.high >= self.low else self.low - index
-
-    def index(self, offset):
-        """The index of a bit as the database has it."""
-        return "-" if not self.ranged else str(self.low + offset if self.high >= self.low else self.low - offset)
+from .things import Memory, Signal
 
 
 class Scope:
@@ -84,7 +56,8 @@ class Param:
 class Declared:
     """A declaration of one name: `direction` is `input`, `output` or None, `kind` is `wire`, `reg` or `integer`.
 
-    A port that is declared `twice` has its kind in a declaration of its own, where the head does not declare it.
+    A port that is declared `twice` has its kind in a declaration of its own, where the head does not declare it. A memory has
+    in `words` the two bounds of its indexes.
     """
     name: str
     kind: str
@@ -94,12 +67,16 @@ class Declared:
     low: terms.Term = None
     initial: str = None
     twice: bool = False
+    words: tuple = None
 
     def signal(self, path, constants, is_input):
         if self.kind == "integer":
             return Signal(path, self.name, 31, 0, True, True, is_input, self.kind)
         high, low = (bound.value(NoSignals(constants), None).ones if bound else 0 for bound in (self.high, self.low))
-        return Signal(path, self.name, high, low, self.high is not None, self.signed, is_input, self.kind)
+        shape = path, self.name, high, low, self.high is not None, self.signed, is_input, self.kind
+        if self.words:
+            return Memory(*shape, *(bound.value(NoSignals(constants), None).ones for bound in self.words))
+        return Signal(*shape)
 
 
 @dataclass
@@ -248,7 +225,7 @@ class Process:
 
     @kept
     def mentions(self):
-        """The signals that its text reads."""
+        """The signals that its text reads, and all words of the memories that it reads."""
         found = set()
         for term, scope in self.read_terms():
             found |= term.mentions(scope)
@@ -351,7 +328,8 @@ class Combinational(BlockProcess):
     @kept
     def watched(self):
         names = read_names(self.body) if self.item.listed is None else self.item.listed
-        return self.mentions() | {self.scope.find(name) for name in set(names) - self.module.constant_names()}
+        named = {self.scope.find(name) for name in set(names) - self.module.constant_names()}
+        return self.mentions() | {it for it in named if not isinstance(it, Memory)}
 
     @kept
     def reads_first(self):
@@ -401,10 +379,10 @@ class InstanceOf:
 
 
 class Flat:
-    """The flat design: its instances, signals, other names of signals, and processes."""
+    """The flat design: its instances, signals, memories, other names of signals, and processes."""
 
     def __init__(self, top):
-        self.instances, self.signals, self.aliases, self.processes = [], [], [], []
+        self.instances, self.signals, self.memories, self.aliases, self.processes, self.machines = [], [], [], [], [], []
         self.top = self.add(top, top.name, {}, {})
 
     def add(self, module, path, joined, given):
@@ -428,7 +406,7 @@ class Flat:
             self.aliases.append((signal.full_name, outer))
             signal = outer
         else:
-            self.signals.append(signal)
+            (self.memories if declared.words else self.signals).append(signal)
         scope.names[declared.name] = signal
 
     def add_item(self, item, made):
@@ -460,9 +438,14 @@ class Flat:
             self.processes.append(Assignment(term, Name(port.name), inner, None, outer))
 
     @kept
+    def things(self):
+        """The signals, and the words of the memories."""
+        return self.signals + [word for memory in self.memories for word in memory.words]
+
+    @kept
     def writers(self):
-        """The processes that write each signal."""
-        found = {signal: [] for signal in self.signals}
+        """The processes that write each signal or word."""
+        found = {thing: [] for thing in self.things()}
         for process in self.processes:
             for signal in process.targets():
                 found[signal].append(process)

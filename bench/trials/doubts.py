@@ -1,4 +1,4 @@
-"""What a dump decides of a design, and where it leaves a point open.
+"""What a dump decides of a design under a habit of its bench, and where it leaves a point open.
 
 A signal is *clear* at a time where the dump decides its settled value: it is bound; or it is a net whose bits are all driven, by
 assignments that read what is clear; or a combinational block writes it whole on each path, reads no target before it has written
@@ -6,13 +6,15 @@ it, and reads what is clear, one of which is bound and has changed in the window
 the step, and it was clear before; or one that is clean, reads what it knows, and writes it whole or finds it clear. Since each
 expression evaluates all operands, only the set of the signals of the first three kinds is to be found: their values are those of
 the simulation, which is a run that shows the dump. A clean block *knows* its trigger and what was clear before and is not early.
-Memories would add their rules to `Clear` and their doubts to `Doubts.doubtful`.
+Words of memories are clear by the rules of clocked blocks, and what reads a memory is told by the words that it reads.
 """
 from . import vectors
 from .designs import Assignment, BlockProcess, Combinational, Edged
-from .runs import Execution, differ_in, known_values, partly_executed, visited
-from .terms import Binary, cases_of, holds
+from .runs import Execution, Outside, differ_in, known_values, partly_executed, visited
+from .terms import Binary, alone, cases_of, holds
+from .things import Word, memories_of, named
 from .wakes import wakes_of
+from .words import WordOf, read_key
 
 
 class Knowledge:
@@ -32,8 +34,8 @@ class Knowledge:
 class Clear:
     """The clear signals at each listed time before the last."""
 
-    def __init__(self, run, bound):
-        self.run, self.flat, self.bound = run, run.flat, set(bound)
+    def __init__(self, run, bound, is_late=False):
+        self.run, self.flat, self.bound, self.is_late = run, run.flat, set(bound), is_late
         self.writers = run.flat.writers()
         self.changed, self.kept, self.at, self.wakes = {}, {}, {}, {}
         blocks = [process for process in run.flat.processes if isinstance(process, Combinational)]
@@ -41,6 +43,7 @@ class Clear:
         self.whole = {process: process.writes_whole() for process in blocks}
         self.own_reads = {process: process.reads_first() for process in blocks}
         self.mentions = {process: process.mentions() for process in run.flat.processes}
+        self.memories = {process: memories_of(mentioned) for process, mentioned in self.mentions.items()}
         self.watched = {process: process.watched() for process in run.flat.processes}
         self.targets = {process: process.targets() for process in run.flat.processes}
         self.steps = {new.time: (old, new) for old, new in run.window()}
@@ -52,16 +55,16 @@ class Clear:
         if self.run.steps:
             first = self.run.steps[0].time
             self.changed[first], self.kept[first] = set(), self.bound
-            self.at[first] = self.grow(self.bound, set())
+            self.at[first] = self.grow(self.bound, set(), self.run.steps[0].values)
 
     def step(self, old, new):
         """Finds what is clear after a step from what is clear before it."""
-        self.wakes[new.time] = wakes_of(self.flat, old.values, new.values)
+        self.wakes[new.time] = wakes_of(self.flat, old.values, new.values, self.is_late)
         changed = self.changed[old.time] | {it for it in self.bound if old.values[it] != new.values[it]}
         kept = self.bound.union(*(self.register_values(process, old, new) for process in self.clocked))
-        same = changed == self.changed[old.time] and kept == self.kept[old.time]
+        same = changed == self.changed[old.time] and kept == self.kept[old.time] and not self.flat.memories
         self.changed[new.time], self.kept[new.time] = changed, kept
-        self.at[new.time] = self.at[old.time] if same else self.grow(kept, changed)
+        self.at[new.time] = self.at[old.time] if same else self.grow(kept, changed, new.values)
 
     def knowledge(self, process, old, new):
         """What a block knows in a step, where it is clean."""
@@ -69,7 +72,7 @@ class Clear:
         return Knowledge(process, wakes, self.at[old.time], old, new) if wakes.trigger(process) else None
 
     def register_values(self, process, old, new):
-        """The targets of a clocked block that its rule gives a value after a step."""
+        """The targets and words of a clocked block that its rule gives a value after a step."""
         before, targets = self.at[old.time], set(self.targets[process])
         if not self.wakes[new.time].can_wake(process):
             return targets & before
@@ -79,22 +82,29 @@ class Clear:
         execution, is_told = knowledge.execution()
         return {it for it in targets if it in before or execution.writes_whole(it)} if is_told else set()
 
-    def grow(self, clear, changed):
-        """The least set by the rules; of the bound signals these have changed in the window so far."""
+    def grow(self, clear, changed, values):
+        """The least set by the rules on these settled values; of the bound signals these have changed in the window so far."""
         clear, more = set(clear), True
         while more:
-            more = {it for it in self.flat.signals if it not in clear and self.has_value(it, clear, changed)}
+            more = {it for it in self.flat.signals if it not in clear and self.has_value(it, clear, changed, values)}
             clear |= more
         return clear
 
-    def has_value(self, signal, clear, changed):
+    def has_value(self, signal, clear, changed, values):
         """Whether a rule of nets and combinational blocks gives an unbound signal its value from what is clear."""
         writers = self.writers[signal]
         if not writers or isinstance(writers[0], Edged):
             return False
         if isinstance(writers[0], Assignment):
-            return self.is_driven(signal) and all(self.mentions[process] <= clear for process in writers)
-        return self.is_block_value(writers[0], signal, clear, changed)
+            return self.is_driven(signal) and all(self.is_told(process, clear, values) for process in writers)
+        return self.is_block_value(writers[0], signal, clear, changed) and self.is_told(writers[0], clear, values)
+
+    def is_told(self, process, known, values):
+        """Whether a process reads only what is known: it reads each signal that it mentions, and some words of memories."""
+        if self.memories[process]:
+            return partly_executed(process, values, known)[1]
+        own = self.targets[process] if isinstance(process, Combinational) else ()
+        return self.mentions[process].difference(own) <= known
 
     def is_driven(self, signal):
         driven = 0
@@ -103,12 +113,12 @@ class Clear:
         return driven == vectors.mask(signal.width)
 
     def is_block_value(self, process, signal, clear, changed):
-        others = self.watched[process] - set(self.targets[process])
+        others = {it for it in self.watched[process] if it not in self.targets[process] and not isinstance(it, Word)}
         return (signal in self.whole[process] and not self.own_reads[process] and others <= clear
                 and bool(self.mentions[process] & changed))
 
     def forced(self, signal, time):
-        """Whether the rules give a bound signal its value at a listed time, from what else is bound alone."""
+        """Whether the rules give a bound signal its value at a listed time, from what else is bound and clear words alone."""
         if signal.is_input:
             return False
         writers = self.writers[signal]
@@ -116,9 +126,11 @@ class Clear:
             return True
         if writers and isinstance(writers[0], Edged):
             return time in self.steps and signal in self.register_values(writers[0], *self.steps[time])
-        if not writers or not all(self.mentions[process] <= self.bound - {signal} for process in writers):
+        values = next(step.values for step in self.run.steps if step.time == time)
+        known = self.bound.union(it for it in self.at[time] if isinstance(it, Word))
+        if not all(signal not in self.mentions[process] and self.is_told(process, known, values) for process in writers):
             return False
-        return self.has_value(signal, self.at[time], self.changed[time])
+        return self.has_value(signal, self.at[time], self.changed[time], values)
 
 
 class View:
@@ -133,13 +145,14 @@ class View:
     def read(self, signal):
         return self.values[signal]
 
-    def is_fixed(self, term, scope):
-        mentioned = term.mentions(scope)
-        return mentioned <= self.known and not mentioned & self.blocked
-
     def fixed_value(self, scope, term, width, signed):
-        """The value of a fixed term, else None."""
-        return term.value(scope, Execution(self.values), width, signed) if self.is_fixed(term, scope) else None
+        """The value of a fixed term, which reads only what is known and names nothing that is written at once, else None."""
+        if term.mentions(scope) & self.blocked:
+            return None
+        try:
+            return term.value(scope, Execution(self.values, self.known), width, signed)
+        except Outside:
+            return None
 
     def add(self, key, sure):
         self.open.add(key)
@@ -156,9 +169,19 @@ class View:
 
     def evaluated(self, scope, term, width, signed, sure):
         for inner, w, s in term.within(scope, width, signed):
+            if isinstance(inner, WordOf):
+                self.named_word(scope, inner, read_key, sure)
             if inner.node:
                 operands = inner.operands(scope, w, s) if isinstance(inner, Binary) else [(inner, w, s)]
                 self.add_cases(scope, inner, operands, sure)
+
+    def named_word(self, scope, term, key, sure):
+        """The words that a term may name, to read or to write them; a fixed index names one of them or none."""
+        index = self.fixed_value(scope, *alone(term.index, scope))
+        words = scope.find(term.name()).words if index is None else [term.named_word(scope, index)]
+        for word in words:
+            if word:
+                self.add(key(word), sure and index is not None)
 
     def add_cases(self, scope, term, operands, sure):
         values = [self.fixed_value(scope, *operand) for operand in operands]
@@ -179,10 +202,10 @@ def view_of(process, known, values):
 class Doubts:
     """What is in doubt for a point at a step of the window, and which points are reached there."""
 
-    def __init__(self, run, bound):
-        self.run, self.clear = run, Clear(run, bound)
+    def __init__(self, run, bound, is_late=False):
+        self.run, self.clear = run, Clear(run, bound, is_late)
         self.bound = self.clear.bound
-        self.steps = self.clear.steps
+        self.steps, self.listed = self.clear.steps, run.listed()
         self.views, self.visits, self.clocked = {}, {}, {}
 
     def view(self, process, time):
@@ -191,21 +214,41 @@ class Doubts:
             self.views[process, time] = view_of(process, known, self.steps[time][1].values)
         return self.views[process, time]
 
+    def times(self, point):
+        """The times at which a point may be open: of a state also those without a step."""
+        return self.listed if point.key[0] == "s" else self.steps
+
     def is_clear(self, signal, time):
-        """Whether the signal is clear at the start and the end of the step."""
-        old, _ = self.steps[time]
-        return signal in self.clear.at[old.time] and signal in self.clear.at[time]
+        """Whether the signal is clear at the start and the end of the step; what is clear stays so at a time without one."""
+        old, new = self.listed[time]
+        return signal in self.clear.at[old.time] and signal in self.clear.at[new.time]
 
     def doubtful(self, point, time):
-        """The signals that are in doubt for the point at this time."""
+        """The signals and memories that are in doubt for the point at this time."""
         if point.signal:
             return set() if self.is_clear(point.signal, time) else {point.signal}
-        if isinstance(point.process, Edged):
-            return self.clocked_doubts(point.process, time).of(point.key)
-        if point.key not in self.view(point.process, time).open:
+        return set().union(*(self.block_doubts(process, point.key, time) for process in point.blocks))
+
+    def block_doubts(self, process, key, time):
+        """What is in doubt for a point of a process at this time."""
+        if isinstance(process, Edged):
+            return self.clocked_doubts(process, time).of(key)
+        if key not in self.view(process, time).open:
             return set()
-        found = {it for it in self.run.wakes[point.process] if not self.is_clear(it, time)}
-        return found | self.clear.own_reads.get(point.process, set())
+        found = {it for it in self.run.wakes[process] if not isinstance(it, Word) and not self.is_clear(it, time)}
+        return found | self.clear.own_reads.get(process, set()) | self.doubtful_memories(process, time)
+
+    def doubtful_memories(self, process, time):
+        """The memories of which a word is not clear that a process other than a clocked block reads, or that may have moved."""
+        memories = self.clear.memories[process]
+        if not memories:
+            return set()
+        known = self.clear.at[time] - set(self.clear.targets[process])
+        execution, is_told = partly_executed(process, self.steps[time][1].values, known)
+        moving = self.clear.wakes[time].may_move
+        read = {word for memory in memories for word in memory.words
+                if not is_told or word in moving or word in execution.unwritten}
+        return memories_of(word for word in read if not self.is_clear(word, time))
 
     def clocked_doubts(self, process, time):
         if (process, time) not in self.clocked:
@@ -223,7 +266,8 @@ class Doubts:
 
     def reached_at(self, point):
         """The first time at which the block of a point reaches it, so that each run hits it there, or None."""
-        return None if point.signal else self.first_reached(point.process).get(point.key)
+        times = [self.first_reached(process).get(point.key) for process in point.blocks]
+        return min((time for time in times if time is not None), default=None)
 
     def reached(self, process, time):
         """The points that a process reaches whatever is not known: up to its first read of that, and those surely open."""
@@ -253,10 +297,10 @@ class ClockedDoubts:
             execution, is_told = knowledge.execution()
             self.open, self.reached = view.open, execution.visits | view.sure
             if not is_told:
-                self.signals = clear.mentions[process] - knowledge.known
+                self.signals = named(clear.mentions[process] - knowledge.known)
         elif wakers:
             is_told = partly_executed(process, old.values, set())[1]
-            self.signals = set(wakers) | (set() if is_told else clear.mentions[process] - before)
+            self.signals = set(wakers) | (set() if is_told else named(clear.mentions[process] - before))
 
     def of(self, key):
         """The signals that are in doubt for a point of the block."""

@@ -1,6 +1,7 @@
 """Random expressions, targets and numbers within the limits of the language: 128 bits, constant selects in range."""
 from . import terms, vectors
 from .terms import Binary, Bit, Choice, Concat, Name, Number, Paren, Part, Sign, Slide, Unary, decimal
+from .words import SelectOfWord, WordOf
 
 WIDEST = 128
 BASES = {"b": 1, "o": 3, "h": 4}
@@ -44,7 +45,7 @@ class Expressions:
 
     def __init__(self, chance, scopes):
         self.chance, self.scopes = chance, scopes
-        self.readable, self.constants = [], []
+        self.readable, self.constants, self.memories = [], [], []
 
     def width(self, term):
         """The greatest width that a term has alone."""
@@ -71,6 +72,8 @@ class Expressions:
 
     def leaf(self):
         chance = self.chance
+        if self.memories and chance.random() < 0.15:
+            return self.word()
         form = chance.choices(["name", "select", "number", "constant"], [60, 22, 12, 6])[0]
         if form == "number" or not self.readable:
             return random_number(chance)
@@ -78,6 +81,67 @@ class Expressions:
             return Name(chance.choice(self.constants))
         name = self.pick()
         return self.select(name) if form == "select" else Name(name)
+
+    def word(self):
+        """A word of a memory, or some bits of it."""
+        name, chance = self.chance.choice(self.memories), self.chance
+        word = WordOf(name, self.word_index(name))
+        if chance.random() < 0.75:
+            return word
+        select = self.select(name)
+        return word if isinstance(select, Name) else SelectOfWord(word, select)
+
+    def word_bounds(self, name):
+        """The indexes that a memory has whatever the parameters are."""
+        ends = [sorted((it.first, it.last)) for it in (scope.find(name) for scope in self.scopes)]
+        return max(low for low, _ in ends), min(high for _, high in ends)
+
+    def word_index(self, name):
+        """An index of a memory: constant, a signal, bits of one, or an expression, which may name no word."""
+        chance, (low, high) = self.chance, self.word_bounds(name)
+        form = chance.choices(["constant", "strange", "name", "bits", "sum", "term"], [20, 2, 22, 30, 14, 12])[0]
+        if form == "strange":
+            digits = "".join(chance.choice("01xz") for _ in range(2)) + "x"
+            return Number(f"3'b{digits}", vectors.of_digits(digits), False)
+        index = None if form == "constant" or not self.readable else self.signal_index(form, low, high)
+        if index and all(index.mentions(scope) and index.own_width(scope) <= 32 for scope in self.scopes):
+            return self.with_own_width(index)
+        return self.constant_index(low, high)
+
+    def with_own_width(self, index):
+        """An index between braces where it is an operator on what has a size: Icarus Verilog cuts no sum in an index."""
+        is_operator = isinstance(terms.bare(index), (Unary, Binary, Choice))
+        return Concat([index]) if is_operator and self.has_size(index) else index
+
+    def constant_index(self, low, high):
+        """A number in the range, or a parameter that is."""
+        names = [name for name in self.constants if name[0] in "WPL" and all(self.is_within(scope.find(name), low, high)
+                                                                              for scope in self.scopes)]
+        if names and self.chance.random() < 0.4:
+            return Name(self.chance.choice(names))
+        return decimal(self.chance.randint(low, high))
+
+    @staticmethod
+    def is_within(constant, low, high):
+        index = vectors.index(constant.vector, constant.signed)
+        return index is not None and low <= index <= high
+
+    def signal_index(self, form, low, high):
+        """An index that names a signal, at times one of more bits than the words need."""
+        chance = self.chance
+        if form == "term":
+            return self.term(chance.choice([1, 1, 2]))
+        name = self.pick()
+        bounds, bits = self.bounds(name), max(high.bit_length(), 1)
+        if bounds and form != "name" and bounds[1] - bounds[0] >= bits and self.one_direction(name):
+            last = bounds[0] + bits - 1
+            index = Part(name, *map(decimal, (last, bounds[0]) if self.falls(name) else (bounds[0], last)))
+        else:
+            narrow = [it for it in self.readable if max(scope.find(it).width for scope in self.scopes) <= bits]
+            index = Name(chance.choice(narrow)) if narrow and chance.random() < 0.7 else Name(name)
+        if form == "sum":
+            index = Binary(chance.choice("+-^"), index, decimal(chance.randint(0, max(low, 2))))
+        return index
 
     def pick(self):
         """A readable name; later ones, which depend on more, are likelier."""

@@ -2,6 +2,8 @@
 from .designs import Assign, Clocked, Declared, Instance, Module, NoSignals, Param, Scope, evaluated
 from .expressions import Expressions, random_number
 from .kinds import KINDS, declared_bounds, random_range
+from .machine_kinds import machine_kinds, module_words
+from .rams import CLOCKED_MEMORY_KINDS, MEMORY_KINDS
 from .registers import CLOCKED_KINDS, Registers
 from .terms import Binary, Name, decimal
 
@@ -9,11 +11,12 @@ from .terms import Binary, Name, decimal
 class Builder:
     """A module under construction: its names, what it can read, and the modules of which it may have instances."""
 
-    def __init__(self, chance, name, modules):
-        self.chance, self.modules = chance, modules
+    def __init__(self, chance, name, modules, with_memories=False):
+        self.chance, self.modules, self.with_memories = chance, modules, with_memories
         self.module, self.taken, self.loop_count = Module(name, ansi=chance.random() < 0.6), set(), 0
         self.make = Expressions(chance, [Scope(name)])
-        self.outputs, self.ports_made, self.widths = [], False, None
+        self.outputs, self.ports_made, self.widths, self.memories = [], False, None, set()
+        self.state_variables, self.more_kinds = [], []
 
     def depth(self):
         return self.chance.choice([0, 1, 2, 2, 3, 4])
@@ -153,7 +156,9 @@ class Builder:
         self.ports_made = True
 
     def add_items(self, count):
-        kinds = [*KINDS, *CLOCKED_KINDS] if self.module.clocks else KINDS
+        kinds = [*KINDS, *CLOCKED_KINDS, *self.more_kinds] if self.module.clocks else [*KINDS, *self.more_kinds]
+        if self.with_memories:
+            kinds = [*kinds, *MEMORY_KINDS, *(CLOCKED_MEMORY_KINDS if self.module.clocks else [])]
         weights = [kind.weight for kind in kinds]
         for kind in self.chance.choices(kinds, weights, k=count):
             kind.add(self)
@@ -177,29 +182,43 @@ def variant_constants(module, variant):
     return constants
 
 
+def add_items(builder, count, machines):
+    """Adds items to a module, with state machines and their words where these are wanted."""
+    if machines is not None:
+        builder.more_kinds += machine_kinds(builder.module)
+    builder.add_items(count)
+    if machines is not None:
+        machines += module_words(builder)
+
+
 def has_clocked(module):
     """Whether the module or one below it has a clocked block."""
     return any(isinstance(item, Clocked) or isinstance(item, Instance) and has_clocked(item.module) for item in module.items)
 
 
-def random_design(chance, clocked=False):
-    """A list of modules, the top last; `clocked` ones have clocked blocks."""
+def random_design(chance, clocked=False, memories=False, machines=None):
+    """A list of modules, the top last; `clocked` ones have clocked blocks, and those with `memories` at least one memory.
+
+    `machines`, if there is a list, gets words for state machines.
+    """
     modules = []
     for number in range(chance.choice([0, 0, 0, 1, 1, 2, 3])):
-        builder = Builder(chance, f"part{number}", modules)
+        builder = Builder(chance, f"part{number}", modules, memories)
         variants = builder.add_params()
         if clocked and chance.random() < 0.8:
             builder.add_clocks()
         builder.add_ports(chance.randrange(1, 5), chance.randrange(1, 4))
-        builder.add_items(chance.randrange(1, 5))
+        add_items(builder, chance.randrange(1, 5), machines)
         modules = [*modules, (builder.module, variants)]
-    builder = Builder(chance, chance.choice(["top", "chip", "m"]), modules)
+    builder = Builder(chance, chance.choice(["top", "chip", "m"]), modules, memories)
     builder.add_params()
     builder.make.scopes = builder.make.scopes[:1]
     if clocked:
         builder.add_clocks()
     builder.add_ports(chance.randrange(1, 6), chance.randrange(1, 5))
-    builder.add_items(chance.choice([1, 2, 3, 4, 6, 9, 12, 20]))
+    if memories:
+        (chance.choice(CLOCKED_MEMORY_KINDS[:2]) if clocked else MEMORY_KINDS[0]).add(builder)
+    add_items(builder, chance.choice([1, 2, 3, 4, 6, 9, 12, 20]), machines)
     if clocked and not has_clocked(builder.module):
         Registers().add(builder)
     design = [module for module, _ in modules] + [builder.module]

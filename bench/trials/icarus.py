@@ -36,7 +36,7 @@ def build(folder):
 
 @dataclass
 class Settled:
-    """What is settled after one step: the value of each signal, and the probes and last evaluation of each process.
+    """What is settled after one step: the value of each signal and word, and the probes and last evaluation of each process.
 
     `entries` has for each clocked block the values with which each of its evaluations in the step began.
     """
@@ -60,7 +60,7 @@ def read_settled(output, copy):
         if line.startswith("A "):
             add_entry(line.split(), copy, entries)
         if line.startswith("T "):
-            settled = Settled(int(line.split()[1]), {signal: settled_digits(next(lines)) for signal in copy.flat.signals})
+            settled = Settled(int(line.split()[1]), {signal: settled_digits(next(lines)) for signal in copy.flat.things()})
             for _ in copy.probes:
                 digits, time = next(lines).split()
                 settled.probes.append(digits[::-1])

@@ -106,9 +106,9 @@ class AnyBlock(Kind):
 
     @staticmethod
     def comb(builder, body, listed, targets, loops):
-        """The block with `*`, or with a list of what it reads and some more names."""
+        """The block with `*`, or with a list of what it reads and some more names; a block that reads a memory has no list."""
         chance = builder.chance
-        if not listed or chance.random() < 0.6:
+        if not listed or chance.random() < 0.6 or not builder.memories.isdisjoint(listed):
             return Comb(body, loops=loops, star=chance.choice(["*", "*", "(*)"]))
         more = [name for name in builder.make.readable + targets if chance.random() < 0.05]
         listed = list(dict.fromkeys(listed + more))

@@ -9,7 +9,7 @@ def run_differences(run, clear):
     found = []
     for old, new in run.window():
         wakes = clear.wakes[new.time]
-        moved = [it for it in run.flat.signals if old.values[it] != new.values[it] and it not in wakes.may_move]
+        moved = [it for it in run.flat.things() if old.values[it] != new.values[it] and it not in wakes.may_move]
         found += [f"at {new.time} {it.full_name} moves, which it may not" for it in moved]
         for process in run.flat.processes:
             if isinstance(process, Edged):
@@ -54,7 +54,7 @@ def register_differences(process, knowledge, old, new, name):
 
 
 def clear_differences(run, other, clear):
-    """The signals that are clear at a time, and that two runs which show the same dump have with different values."""
+    """The signals and words that are clear at a time, and that two runs which show the same dump have with different values."""
     return [f"at {mine.time} {it.full_name} is {digits_of(mine.values[it])} and in another run {digits_of(its.values[it])}"
             for mine, its in zip(run.steps, other.steps) for it in clear.at[mine.time] if mine.values[it] != its.values[it]]
 
@@ -64,7 +64,7 @@ def account_differences(runs, doubts):
     found = [text for other in runs[1:] for text in clear_differences(runs[0], other, doubts.clear)]
     hits = [run.hits() for run in runs]
     for point in points_of(runs[0].flat):
-        times = [set(it.get((point.process or point.signal, point.key), [])) for it in hits]
+        times = [set(point.times(it)) for it in hits]
         found += [f"{point.address} is hit at {time} in one run and not in another, and nothing is in doubt for it there"
                   for time in set().union(*times) - set.intersection(*times) if not doubts.doubtful(point, time)]
         reached = doubts.reached_at(point)

@@ -3,7 +3,9 @@ from dataclasses import dataclass
 from functools import lru_cache
 
 from .designs import BlockProcess
+from .machines import machine_points
 from .terms import Binary, cases_of
+from .words import read_key, write_key
 
 CASES = ["0", "1", "0-", "-0", "1-", "-1", "00", "01", "10", "11"]
 
@@ -12,14 +14,19 @@ CASES = ["0", "1", "0-", "-0", "1-", "-1", "00", "01", "10", "11"]
 class Point:
     """A point: its address as the database has it, and what it counts.
 
-    `process` is the block of a line or of a case of a node, and `key` its statement or its node and case. A toggle has a
-    signal, and in `key` the offset of its bit and whether it rises.
+    `blocks` has the block of a line or of a case of a node, and `key` its statement or its node and case. Those of a word are the
+    processes that read its memory, or that write it. A toggle has a signal, and in `key` the offset of its bit and whether it rises;
+    a state or an arc has the signal and its values.
     """
     address: str
     order: tuple
     key: tuple
-    process: object = None
+    blocks: tuple = ()
     signal: object = None
+
+    def times(self, hits):
+        """When it is hit, from the times at which each block or signal hits each key."""
+        return sorted({time for it in self.blocks or (self.signal,) for time in hits.get((it, self.key), ())})
 
 
 def line_points(process):
@@ -29,7 +36,7 @@ def line_points(process):
         if statement.word:
             number = statement.point
             address = f"l {path} {number} {module.source}:{statement.line} {statement.word}"
-            found[number] = Point(address, (0, path, number), ("l", number), process)
+            found[number] = Point(address, (0, path, number), ("l", number), (process,))
     return list(found.values())
 
 
@@ -48,7 +55,7 @@ def node_points(process):
     for number, term in counted_terms(process).items():
         for case in cases_of(term.word, 2 if isinstance(term, Binary) else 1):
             address = f"c {path} {number} {module.source}:{term.line} {term.word} {case}"
-            found.append(Point(address, (1, path, number, CASES.index(case)), ("c", number, case), process))
+            found.append(Point(address, (1, path, number, CASES.index(case)), ("c", number, case), (process,)))
     return found
 
 
@@ -64,10 +71,24 @@ def toggle_points(signal):
     return found
 
 
+def word_points(memory, flat):
+    """Each word of a memory, read and written."""
+    readers = tuple(it for it in flat.processes if memory.words[0] in it.mentions())
+    writers = tuple(flat.writers()[memory.words[0]])
+    found = []
+    for word in memory.words:
+        for number, (key, blocks) in enumerate(((read_key(word), readers), (write_key(word), writers))):
+            address = f"m {memory.path} {memory.name} {word.at} {key[0]}"
+            found.append(Point(address, (4, memory.path, memory.name, word.at, number), key, blocks))
+    return found
+
+
 @lru_cache(maxsize=4)
 def points_of(flat):
     """All points, in the order of a database."""
     found = [point for signal in flat.signals for point in toggle_points(signal)]
+    found += [Point(*it, signal=machine.signal) for machine in flat.machines for it in machine_points(machine)]
+    found += [point for memory in flat.memories for point in word_points(memory, flat)]
     for process in flat.processes:
         if process.counted:
             found += node_points(process)

@@ -7,18 +7,21 @@ evaluations write on the values that they began with. A difference here is one b
 """
 from . import vectors
 from .designs import Assignment, Combinational, Edged
+from .machines import machine_hits
 from .terms import Binary, cases_of, holds
+from .things import Word
 from .vectors import digits_of
+from .words import read_key, write_key
 
 
 class Outside(Exception):
-    """A body reads a signal that is not known."""
+    """A body reads a signal or word that is not known."""
 
 
 class Execution:
     """One execution of a body: what it writes and visits, and what it reads before it has written it whole.
 
-    With `known` it ends by `Outside` at the first read of another signal that it has not written whole.
+    With `known` it ends by `Outside` at the first read of another signal or word that it has not written whole, which is visited.
     """
 
     def __init__(self, values, known=None):
@@ -33,12 +36,23 @@ class Execution:
                 raise Outside
         return self.values[signal] if signal in self.values else self.before[signal]
 
+    def read_word(self, word):
+        self.visits.add(read_key(word))
+        return self.read(word)
+
     def write(self, signal, low, part):
+        self.named(signal)
         old = self.values[signal] if signal in self.values else self.before[signal]
         self.values[signal] = vectors.place(old, low, part)
         self.written[signal] = self.written.get(signal, 0) | vectors.written_mask(signal.width, low, part.width)
 
+    def named(self, thing):
+        """Notes that a word is written."""
+        if isinstance(thing, Word):
+            self.visits.add(write_key(thing))
+
     def queue(self, signal, low, part):
+        self.named(signal)
         self.queued.append((signal, low, part))
 
     def writes_whole(self, signal):
@@ -109,7 +123,7 @@ def is_value_left(execution, values):
 class Run:
     """A simulation under one dump: what is settled at each listed time, from the first on and before the last.
 
-    At a listed time that is no step of the bench nothing of the design moves, so nothing is hit.
+    At a listed time that is no step of the bench nothing of the design moves, so nothing but a state is hit.
     """
 
     def __init__(self, flat, copy, settled, dump):
@@ -127,6 +141,14 @@ class Run:
     def window(self):
         """Each step of the window with the one before it."""
         return list(zip(self.steps, self.steps[1:]))
+
+    def listed(self):
+        """The listed times of the window, each with its step and the one before; where there is no step, the last one for both."""
+        steps, found, last = {new.time: (old, new) for old, new in self.window()}, {}, self.steps[:1]
+        for time in self.dump.times[1:-1]:
+            found[time] = steps.get(time) or (*last, *last)
+            last = [found[time][1]]
+        return found
 
     def probes(self, step):
         """The counted processes with what the simulation says of their last evaluation: its visits and its time.
@@ -147,6 +169,7 @@ class Run:
             for signal in self.flat.signals:
                 for key in toggled(old.values[signal], new.values[signal]):
                     found.setdefault((signal, key), []).append(new.time)
+        found.update(machine_hits(self))
         return found
 
     def is_scored(self, process, acted, old, new):

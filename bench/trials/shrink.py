@@ -4,12 +4,14 @@ from dataclasses import replace
 
 from .bodies import listed_names
 from .designs import Always, Clocked, Comb, Instance
+from .machines import fewer_machines
 from .statements import Block, Case as CaseStatement, For, If
 from .texts import module_statements
 
 
 def smaller_cases(case):
     """Cases with one thing less: a name of the dump, a step, a move, an item, a statement, or a part of an expression."""
+    yield from fewer_machines(case)
     yield from fewer_modules(case)
     yield from fewer_items(case)
     yield from fewer_steps(case)

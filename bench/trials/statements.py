@@ -1,12 +1,13 @@
 """Statements of blocks: their execution, what may be reached, and what is surely written (clause 9).
 
-A target is a `Name`, a `Select` or a `Concat` of targets. The copies of a statement are those of the loops around it.
+A target is a `Name`, a `Select`, a word of a memory or a `Concat` of targets. The copies of a statement are those of the loops around it.
 """
 from functools import reduce
 from operator import and_
 
 from . import terms, vectors
-from .terms import Concat, Constant, Name
+from .terms import Concat, Constant, Name, Select
+from .words import WordOf, write_key
 
 
 def leaves(target):
@@ -27,7 +28,9 @@ def right_side(target, value, scope):
 
 
 def leaf_writes(leaf, scope, state):
-    """The signal, the offset and the width that a leaf names in a state."""
+    """The signal or word, the offset and the width that a leaf names in a state; None for a word that there is not."""
+    if isinstance(leaf, WordOf):
+        return leaf.found_word(scope, state), 0, terms.width_of(leaf, scope)
     signal = scope.find(leaf.name())
     return signal, 0 if isinstance(leaf, Name) else leaf.found_offset(scope, state), terms.width_of(leaf, scope)
 
@@ -38,28 +41,28 @@ def assign(target, value, scope, state, queued=False):
     result = vectors.extend(value.value(scope, state, *right_side(target, value, scope)[1:]), terms.width_of(target, scope),
                             value.own_sign(scope))
     above, write = result.width, state.queue if queued else state.write
-    for signal, low, width in places:
+    for thing, low, width in places:
         above -= width
-        write(signal, low, vectors.select(result, above, width))
+        if thing:
+            write(thing, low, vectors.select(result, above, width))
 
 
 def sure_masks(target, scope):
     """The bits of signals that a target surely writes."""
     found = {}
     for leaf in leaves(target):
-        if isinstance(leaf, Name) or leaf.is_constant(scope):
+        if isinstance(leaf, Name) or isinstance(leaf, Select) and leaf.is_constant(scope):
             signal, low, width = leaf_writes(leaf, scope, None)
             found[signal] = found.get(signal, 0) | vectors.written_mask(signal.width, low, width)
     return found
 
 
 def possible_masks(target, scope):
-    """The bits of signals that a target may write."""
+    """The bits of signals that a target may write; of a memory it may write all words."""
     found = sure_masks(target, scope)
     for leaf in leaves(target):
-        if not isinstance(leaf, Name) and not leaf.is_constant(scope):
-            signal = scope.find(leaf.name())
-            found[signal] = vectors.mask(signal.width)
+        if isinstance(leaf, WordOf) or isinstance(leaf, Select) and not leaf.is_constant(scope):
+            found.update((it, vectors.mask(it.width)) for it in scope.find(leaf.name()).things())
     return found
 
 
@@ -319,6 +322,9 @@ class Set(Statement):
         view.reached(self, sure)
         for term, width, signed in self.evaluated(scope):
             view.evaluated(scope, term, width, signed, sure)
+        for leaf in leaves(self.target):
+            if isinstance(leaf, WordOf):
+                view.named_word(scope, leaf, write_key, sure)
 
 
 def statements_in(body):

@@ -52,7 +52,7 @@ class Stimuli:
             moves = [replace(move, how=chance.choice(list(LATER)[:hows])) for move in step.moves]
             chance.shuffle(moves)
             steps.append(Step(step.gap, moves))
-        variables = [signal for signal in flat.signals if signal.kind != "wire" and not signal.is_input]
+        variables = [signal for signal in flat.things() if signal.kind != "wire" and not signal.is_input]
         starts = {it.full_name: random_digits(chance, it.width, False) for it in variables if chance.random() < share}
         return Stimuli(steps, self.dump_from, self.ends_at_once, starts)
 
@@ -62,9 +62,9 @@ def input_range(signal):
 
 
 def show_task(copy):
-    """The task that prints the settled values of all signals, and all probes."""
+    """The task that prints the settled values of all signals and words, and all probes."""
     lines = ["task show;", "begin", '  $display("T %0d", $time - 2);']
-    lines += [f'  $display("%b", {in_bench(signal.path)}.{signal.name});' for signal in copy.flat.signals]
+    lines += [f'  $display("%b", {in_bench(signal.path)}.{signal.name});' for signal in copy.flat.things()]
     for path, probes in copy.probes:
         scope, n = in_bench(path), probes.number
         lines.append(f'  $display("%b %0d", {scope}.probe_{n}, {scope}.acted_{n});')

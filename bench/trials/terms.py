@@ -96,9 +96,9 @@ class Term:
             yield from term.within(scope, w, s)
 
     def mentions(self, scope):
-        """The signals that it names."""
+        """The signals that it names, and all words of the memories that it names."""
         named = (scope.find(term.name()) for term in self.everything() if term.name())
-        return {it for it in named if not isinstance(it, Constant)}
+        return {thing for it in named if not isinstance(it, Constant) for thing in it.things()}
 
 
 def alone(term, scope):

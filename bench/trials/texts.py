@@ -11,7 +11,8 @@ def declaration(declared, kind):
     """A declaration without its semicolon; `kind` is the words before the sign."""
     value = f" = {declared.initial}" if declared.initial else ""
     signed = "signed " if declared.signed and declared.kind != "integer" else ""
-    return f"{kind} {signed}{range_text(declared)}{declared.name}{value}"
+    words = f" [{':'.join(bound.text() for bound in declared.words)}]" if declared.words else ""
+    return f"{kind} {signed}{range_text(declared)}{declared.name}{words}{value}"
 
 
 def param_text(param):

@@ -2,15 +2,20 @@
 import os
 import random
 import subprocess
-from dataclasses import dataclass, replace
+from collections import Counter
+from dataclasses import dataclass, field, replace
 
-from . import icarus, laws
+from . import habits, icarus, laws
 from .clocks import clocked_stimuli
 from .copies import Copy, in_bench
 from .designs import Flat
 from .doubts import Doubts
 from .generator import random_design
+from .habits import FREE, LATE
+from .machine_kinds import random_words
+from .machines import command_words, machine_fault, machines_of
 from .noise import add_noise
+from .points import points_of
 from .runs import Run
 from .stimuli import bench_text, random_stimuli
 from .texts import source_texts
@@ -33,7 +38,8 @@ class Case:
     """A design, its bench, and the names that the dump has: those of signals and of ports that are joined to them.
 
     `seed` gives other runs, and the noise of the dump with `noisy`. With `altered`, two numbers, a bit of the dump is not
-    that of the simulation; the numbers choose which. A `clocked` design has three other runs.
+    that of the simulation; the numbers choose which. A `clocked` design has three other runs. `machines` are the words that name
+    state machines. The bench keeps to the first of the `habits`, and each dump is scored under all of them.
     """
     design: list
     stimuli: object
@@ -42,10 +48,14 @@ class Case:
     noisy: bool = False
     altered: tuple = None
     clocked: bool = False
+    machines: list = field(default_factory=list)
+    habits: tuple = (FREE,)
 
     def others(self, flat):
         """The steps of the other runs: the inputs move otherwise, and variables begin otherwise, or one of both."""
         chance = random.Random(self.seed)
+        if LATE in self.habits:
+            return habits.other_stimuli(self, flat, chance)
         if not self.clocked:
             return [self.stimuli.otherwise(chance, flat)]
         return [self.stimuli.otherwise(chance, flat, 4, share) for share in (0.0, 0.3, 0.7)]
@@ -55,10 +65,13 @@ class Case:
 
 
 class Outcome:
-    """What a dump comes to: `word` is `scored`, `contradicted` where it is altered, or why nothing is compared."""
+    """What a dump comes to: `word` is `scored`, `contradicted` where it is altered, or why nothing is compared.
 
-    def __init__(self, word, fault=None, detail="", counts=None):
-        self.word, self.fault, self.detail, self.counts = word, fault, detail, counts or {}
+    `verdicts` has what the database says of each point.
+    """
+
+    def __init__(self, word, fault=None, detail="", counts=None, verdicts=()):
+        self.word, self.fault, self.detail, self.counts, self.verdicts = word, fault, detail, counts or {}, verdicts
 
 
 def all_names(flat):
@@ -96,7 +109,10 @@ class Trial:
             module.number()
         self.sources = {f"part{number}.v": text for number, text in source_texts(case.design).items()}
         self.flat = Flat(case.design[-1])
+        self.refusal = machine_fault(self.flat, case.machines)
+        self.flat.machines = [] if self.refusal else machines_of(self.flat, case.machines)
         self.copy, self.others = Copy(self.flat), None
+        self.other_stimuli = case.others(self.flat)
 
     def path(self, name):
         return os.path.join(self.folder, name)
@@ -106,19 +122,23 @@ class Trial:
         os.makedirs(self.folder, exist_ok=True)
         known = set(all_names(self.flat))
         choices = [dumped(names, known) for names in self.choices]
-        bench = self.copy.text + bench_text(self.copy, self.case.stimuli, self.case.others(self.flat), choices)
+        bench = self.copy.text + bench_text(self.copy, habits.bench_stimuli(self.case, self.flat), self.other_stimuli, choices)
         for name, text in {**self.sources, "bench.v": bench}.items():
             with open(self.path(name), "w", encoding="ascii") as it:
                 it.write(text)
         icarus.build(self.folder)
 
-    def words(self, dump):
-        """The words of `covered score` for a dump."""
+    def words(self, dump, habit=None):
+        """The words of `covered score` for a dump, under a habit or the first one of the case."""
         sources = [word for name in self.sources for word in ("-v", name)]
-        return ["score", "-t", self.flat.top.module.name, "-i", "tb.dut", *sources, "-vcd", dump, "-o", "out.db"]
+        more = [*command_words(self.case.machines), *(["-late"] if (habit or self.case.habits[0]) == LATE else [])]
+        words = ["-t", self.flat.top.module.name, "-i", "tb.dut", *sources, "-vcd", dump, "-o", "out.db"]
+        return ["score", *more, *words] if self.case.seed % 2 else ["score", *words, *more]
 
     def outcome(self, number, altered=None):
         """Simulates the bench with the choice of this number, and scores the dump."""
+        if self.refusal:
+            return self.refused(self.score("none.vcd", self.case.habits[0]))
         try:
             settled = icarus.simulate(self.folder, self.copy, [f"+dump=dump{number}.vcd", f"+vars{number}."])
         except icarus.SimulationFault as fault:
@@ -130,8 +150,13 @@ class Trial:
         differences = run.differences()
         if differences:
             return Outcome("simulated otherwise", detail=differences[0])
-        doubts = Doubts(run, icarus.bind(self.flat, dump))
-        runs = [run] if altered else [run, *self.other_runs(run, doubts.bound)]
+        outcomes = [self.outcome_under(habit, number, run, altered) for habit in self.case.habits[:1 if altered else None]]
+        return outcomes[0] if len(outcomes) == 1 else self.joined(*outcomes)
+
+    def outcome_under(self, habit, number, run, altered):
+        """What the dump of a simulation comes to under a habit."""
+        doubts = Doubts(run, icarus.bind(self.flat, run.dump), habit == LATE)
+        runs = [run] if altered else [run, *self.other_runs(run, doubts.bound, habit)]
         differences = [text for it in runs for text in laws.run_differences(it, doubts.clear)]
         if differences:
             return Outcome("simulated against a law", detail=differences[0])
@@ -140,13 +165,27 @@ class Trial:
         differences = laws.account_differences(runs, doubts)
         if differences:
             return Outcome("scored", Fault("account", "\n".join(differences[:5])))
-        return self.compared(self.score(f"dump{number}.vcd"), runs, doubts)
+        return self.compared(self.score(f"dump{number}.vcd", habit), runs, doubts)
 
-    def other_runs(self, run, bound):
-        """The other runs that show the same dump."""
+    def joined(self, late, free):
+        """What a dump comes to that is scored under both habits."""
+        if free.fault:
+            free.fault.text = f"without -late: {free.fault.text}"
+        for outcome in (late, free):
+            if outcome.fault or outcome.word != "scored":
+                return outcome
+        addresses = [point.address for point in points_of(self.flat)]
+        differences = habits.decided_otherwise(addresses, late.verdicts, free.verdicts)
+        fault = Fault("habits", "\n".join(differences[:5])) if differences else None
+        counts = Counter(late.counts) + Counter(free.counts) + Counter({"scored under both habits": 1})
+        return Outcome("scored", fault, counts=counts)
+
+    def other_runs(self, run, bound, habit):
+        """The other runs of a habit that show the same dump; those of the late habit are runs of the free one too."""
         if self.others is None:
-            self.others = [self.other_settled(number) for number in range(3 if self.case.clocked else 1)]
-        runs = [Run(self.flat, self.copy, settled, run.dump) for settled in self.others]
+            self.others = [self.other_settled(number) for number, _ in enumerate(self.other_stimuli)]
+        others = self.others[:habits.OTHERS] if habit == LATE else self.others
+        runs = [Run(self.flat, self.copy, settled, run.dump) for settled in others]
         return [it for it in runs if run.shows_as(it, bound) and not it.differences()]
 
     def other_settled(self, number):
@@ -156,15 +195,23 @@ class Trial:
         except icarus.SimulationFault:
             return []
 
-    def score(self, dump):
+    def score(self, dump, habit):
         """Runs `covered score`: the status and what it says, or None where it does not end."""
         if os.path.exists(self.path("out.db")):
             os.remove(self.path("out.db"))
         try:
-            done = subprocess.run([self.program, *self.words(dump)], cwd=self.folder, capture_output=True, timeout=600)
+            done = subprocess.run([self.program, *self.words(dump, habit)], cwd=self.folder, capture_output=True, timeout=600)
         except subprocess.TimeoutExpired:
             return None
         return done.returncode, (done.stdout + done.stderr).decode(errors="replace")
+
+    def refused(self, done):
+        """What words come to that name no state machine of the design."""
+        if done is None:
+            return Outcome("refused words", Fault("time", "covered does not end"))
+        if done == (2, self.refusal):
+            return Outcome("refused words")
+        return Outcome("refused words", Fault("refusal", f"status {done[0]}: {done[1]}instead of {self.refusal}"))
 
     def compared(self, done, runs, doubts):
         """What the database of this dump comes to."""
@@ -179,7 +226,8 @@ class Trial:
         with open(self.path("out.db"), encoding="ascii", errors="replace") as it:
             faults = comparison.faults(it.read())
         fault = Fault(f"verdict {fault_word(faults[0])}", "\n".join(faults)) if faults else None
-        return Outcome("scored", fault, counts={**comparison.counts, "other runs": len(runs) - 1})
+        counts = {**comparison.counts, "other runs": len(runs) - 1}
+        return Outcome("scored", fault, counts=counts, verdicts=comparison.verdicts)
 
     def altered_outcome(self, run, doubts, altered):
         """What a dump comes to of which one bit is not that of any run."""
@@ -189,7 +237,7 @@ class Trial:
             return Outcome("not altered")
         signal, number = forced[altered[0] % len(forced)]
         self.write_altered(run, doubts, signal, number, altered[1])
-        done = self.score("altered.vcd")
+        done = self.score("altered.vcd", self.case.habits[0])
         if done is None:
             return Outcome("altered and not refused", Fault("time", "covered does not end"))
         status, said = done
@@ -220,13 +268,18 @@ def fault_word(text):
     return "?"
 
 
-def random_case(seed, dumps, clocked=False):
+def random_case(seed, dumps, clocked=False, memories=False, with_machines=False, late=False):
     """A random design with its bench, so many choices of names to dump, and the numbers that choose what is altered."""
-    chance = random.Random(seed)
-    design = random_design(chance, clocked)
+    chance, words = random.Random(seed), [] if with_machines else None
+    design = random_design(chance, clocked, memories, words)
     for module in design:
         module.number()
     flat = Flat(design[-1])
     stimuli = clocked_stimuli(chance, flat) if clocked else random_stimuli(chance, flat)
     case = Case(design, stimuli, seed, all_names(flat), chance.random() < 0.4, clocked=clocked)
+    if with_machines:
+        case.machines = random_words(chance, flat, words)
+    if late:
+        case.stimuli = habits.late(stimuli, flat, chance)
+        case.habits = chance.choice([(LATE,), (LATE, FREE)])
     return case, [random_names(chance, flat) for _ in range(dumps)], (chance.randrange(10_000), chance.randrange(128))

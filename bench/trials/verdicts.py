@@ -1,5 +1,6 @@
 """Compares a database with what the simulation hits and with what the dump leaves open."""
 import re
+from collections import Counter
 
 from .points import head_of, points_of
 
@@ -10,7 +11,7 @@ def read_verdicts(text, head, points):
     """The verdict of each point in order, and what is wrong with the form of the database."""
     lines = text.split("\n")
     want = [*head, *(point.address for point in points), "end", ""]
-    addresses = [line.partition(" = ")[0] if line[:2] in ("l ", "c ", "t ") else line for line in lines]
+    addresses = [line.partition(" = ")[0] if line[:2] in ("l ", "c ", "t ", "f ", "m ") else line for line in lines]
     pairs = enumerate(zip(want, addresses), 1)
     faults = [f"line {number} is `{got}` instead of `{it}`" for number, (it, got) in pairs if it != got]
     if len(want) != len(addresses):
@@ -25,11 +26,12 @@ class Comparison:
         self.doubts, self.points = doubts, points_of(flat)
         self.head = head_of(flat, sources, len(self.points))
         self.hits = [run.hits() for run in runs]
-        self.signals = {signal.full_name: signal for signal in flat.signals}
-        self.counts = {"hit": 0, "missed": 0, "undetermined": 0}
+        self.named = {it.full_name: it for it in flat.signals + flat.memories}
+        self.counts, self.verdicts = Counter(), []
 
     def faults(self, text):
         verdicts, found = read_verdicts(text, self.head, self.points)
+        self.verdicts = verdicts
         if found:
             return found
         for point, verdict in zip(self.points, verdicts):
@@ -40,12 +42,13 @@ class Comparison:
 
     def fault(self, point, verdict):
         """What is wrong with the verdict, if something is; `times` are those at which each run hits the point."""
-        times = [hits.get((point.process or point.signal, point.key), []) for hits in self.hits]
-        if verdict in ("hit", "missed"):
-            self.counts[verdict] += 1
-            return self.decided_fault(point, verdict, times)
-        self.counts["undetermined"] += 1
-        return self.undetermined_fault(point, verdict, times)
+        times = [point.times(hits) for hits in self.hits]
+        word = verdict if verdict in ("hit", "missed") else "undetermined"
+        self.counts[word] += 1
+        if point.address.startswith("m "):
+            self.counts[f"words {word}"] += 1
+        check = self.undetermined_fault if word == "undetermined" else self.decided_fault
+        return check(point, verdict, times)
 
     def decided_fault(self, point, verdict, times):
         """A point that is hit in no run or in each."""
@@ -61,10 +64,10 @@ class Comparison:
         match = UNDETERMINED.match(verdict)
         if not match:
             return "no verdict"
-        time, signal = int(match[1]), self.signals.get(match[2])
-        if time not in self.doubts.steps or signal is None:
-            return "no time of the window, or no signal"
-        if signal not in self.doubts.doubtful(point, time):
+        time, named = int(match[1]), self.named.get(match[2])
+        if time not in self.doubts.times(point) or named is None:
+            return "no time of the window, or no signal or memory"
+        if named not in self.doubts.doubtful(point, time):
             names = sorted(it.full_name for it in self.doubts.doubtful(point, time))
             return f"not in doubt there; in doubt are {names}"
         sure = [time for found in times for time in found if not self.doubts.doubtful(point, time)]

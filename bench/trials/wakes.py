@@ -25,10 +25,15 @@ def least(first, processes, targets_of):
 
 
 class Wakes:
-    """What may move in a step in which these inputs change; `edges` has the edges of those that have one bit."""
+    """What may move in a step in which these inputs change; `edges` has the edges of those that have one bit.
 
-    def __init__(self, flat, changed, edges):
+    By the late habit an input that is no event signal moves too late to be early for a clean block.
+    """
+
+    def __init__(self, flat, changed, edges, is_late=False):
         self.processes, self.changed, self.edges, self.chosen = flat.processes, changed, edges, {}
+        events = {it for process in flat.processes if isinstance(process, Edged) for it in process.edges()}
+        self.moved_before = changed & events if is_late else changed
         self.may_move = least(changed, flat.processes, self.moved_targets)
 
     def wakers(self, process, members):
@@ -64,17 +69,17 @@ class Wakes:
                 later = self.wakers(process, members)
                 return (process.written_at_once() if at_once else set()) | (process.written_later() if later else set())
 
-            self.chosen[block] = least(self.changed - {trigger}, self.processes, targets)
+            self.chosen[block] = least(self.moved_before - {trigger}, self.processes, targets)
         return self.chosen[block]
 
 
-def wakes_of(flat, old, new):
+def wakes_of(flat, old, new, is_late=False):
     """The wakes of a step from these settled values to those; steps with equal changes of inputs have the same."""
     changed = frozenset(it for it in flat.signals if it.is_input and old[it] != new[it])
     edges = {it: edge(digit(old[it]), digit(new[it])) for it in changed if it.width == 1}
-    key = changed, frozenset(edges.items())
+    key = changed, frozenset(edges.items()), is_late
     if key not in flat.known_wakes():
-        flat.known_wakes()[key] = Wakes(flat, changed, edges)
+        flat.known_wakes()[key] = Wakes(flat, changed, edges, is_late)
     return flat.known_wakes()[key]
 
 
