@@ -99,14 +99,22 @@ class Expressions:
     def word_index(self, name):
         """An index of a memory: constant, a signal, bits of one, or an expression, which may name no word."""
         chance, (low, high) = self.chance, self.word_bounds(name)
-        form = chance.choices(["constant", "strange", "name", "bits", "sum", "term"], [20, 2, 22, 30, 14, 12])[0]
+        form = chance.choices(["constant", "strange", "name", "bits", "sum", "term"], [20, 4, 22, 30, 14, 12])[0]
         if form == "strange":
-            digits = "".join(chance.choice("01xz") for _ in range(2)) + "x"
-            return Number(f"3'b{digits}", vectors.of_digits(digits), False)
+            return self.strange_index()
         index = None if form == "constant" or not self.readable else self.signal_index(form, low, high)
         if index and all(index.mentions(scope) and index.own_width(scope) <= 32 for scope in self.scopes):
             return self.with_own_width(index)
         return self.constant_index(low, high)
+
+    def strange_index(self):
+        """An index with x bits: mostly, as far as a signal says so, since Icarus Verilog fails at some constant ones."""
+        digits = "".join(self.chance.choice("01xz") for _ in range(2)) + "x"
+        number = Number(f"3'b{digits}", vectors.of_digits(digits), False)
+        narrow = [name for name in self.readable if max(scope.find(name).width for scope in self.scopes) <= 3]
+        if not narrow or self.chance.random() < 0.15:
+            return number
+        return Concat([Binary(self.chance.choice("&|^"), Name(self.chance.choice(narrow)), number)])
 
     def with_own_width(self, index):
         """An index between braces where it is an operator on what has a size: Icarus Verilog cuts no sum in an index."""
