@@ -16,6 +16,7 @@ ghost use Rattle.replay_core.specs.Codes.{flags_of};
 ghost use Rattle.replay_core.specs.Fits.{FitsRoom, FitsTables};
 
 use crate::tables::ReplayTables;
+use body_store::premises_law;
 use cov_host::NoMemory;
 use design_model::Design;
 use dump_check::CheckOrder;
@@ -78,6 +79,7 @@ pub(crate) fn make_room(
     ensures none { IfOk result (λ room. room.value.step.list.pairs ≡ []) }
     ensures none_clocked { IfOk result (λ room. room.value.step.clocked.pairs ≡ []) }
 {
+    premises_law();
     let scratch = scratch_room(alloc, design, tables)?;
     let later = Queue::new(alloc, design.processes.len())?;
     let ran = Queue::new(alloc, design.processes.len())?;

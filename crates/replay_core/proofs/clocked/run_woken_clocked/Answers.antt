@@ -4,7 +4,7 @@ use Rattle.design_model.specs.View.{design_view, process_view}
 use Rattle.early_sets.specs.WakeState.{state_of}
 use Rattle.first_step.specs.step_values.Dumped.{AreDumped}
 use Rattle.first_step.specs.store_knowledge.Knows.{Knows}
-use Rattle.step_clocked.specs.Runs.{AreFirstOf}
+use Rattle.step_clocked.specs.Runs.{AreFirstOf, IsClockedStep}
 use Rattle.replay_core.proofs.Given.{cells_given}
 use Rattle.replay_core.proofs.Parts.{closed_cells, given_cells, room_run, run_fits, words_same}
 use Rattle.replay_core.proofs.clocked.run_woken_clocked.Goals as goal
@@ -87,3 +87,10 @@ returns-clause-fits g c =
     run_fits d s.notes.points.now x r q s u e.known.1 c.requires.fits (room_run d x r q c.requires.fits.room refl e.count e.rest refl e.pieces e.later e.places refl) knows refl refl refl e.points
     (subst (λ ps. Rattle.cover_marks.specs.Marks.AreMarksOf ps new.notes.marks) e.points e.marks) refl c.requires.fits.state.wide_closed
     (words_same d x s.notes.written new.notes.written r.words r.words c.requires.fits.words e.first e.ranges refl)
+
+-- ---- the words that are not written
+
+pub returns-clause-unwritten : goal.returns-clause-unwritten
+returns-clause-unwritten g c = λ st is are knows marks.
+    let s = c.args.state.now in
+    c.run_clocked.ensures.unwritten st (subst (λ codes. IsClockedStep st s.notes.points.now (state_of c.args.room.now.step.sets) c.args.habit codes s.values c.args.time) (sym c.as_slice.ensures.value) is) are knows marks

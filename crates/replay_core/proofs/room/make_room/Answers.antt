@@ -10,6 +10,9 @@ use Rattle.replay_core.specs.Fits.{FitsRoom}
 use Rattle.replay_core.specs.declared.room.ReplayRoom.{ReplayRoom}
 use Rattle.replay_core.proofs.room.make_room.Goals as goal
 
+pub new-requires-4-clause-widths : goal.new-requires-4-clause-widths
+new-requires-4-clause-widths c = (c.premises_law.ensures (design_view c.args.design.now) c.requires.lawful).word_widths
+
 pub returns-clause-fits : goal.returns-clause-fits
 returns-clause-fits c =
     let D = c.args.design.now in

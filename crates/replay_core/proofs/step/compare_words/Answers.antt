@@ -21,5 +21,5 @@ returns-clause-fits c =
     let notes = c.compare_noted.new.notes in
     let e = c.compare_noted.ensures in
     let u = record s { notes = notes } in
-    run_fits d points x r (record r { words = words }) s u state.kept fits (room_compared d x r words fits.room) state.known refl refl e.points (subst (AreMarksOf points) (sym e.marks) state.marks) refl state.wide_closed
+    run_fits d points x r (record r { words = words }) s u state.kept fits (room_compared d x r words fits.room) state.known refl refl refl e.points (subst (AreMarksOf points) (sym e.marks) state.marks) refl state.wide_closed
     (words_kept d x s.notes.written notes.written r.words words fits.words e.first e.ranges (subst (λ rs. FitsRanges d rs words) (sym e.ranges) e.fits))

@@ -68,7 +68,9 @@ compare_words-requires g c =
     let w = c.run_woken_clocked in
     let u = w.new.state in
     let points = c.args.state.now.notes.points.now in
-    fits_same (design_view c.args.design.now) (design_view u.store.design.now) points u.notes.points.now c.args.tables.now w.new.room u (sym w.ensures.fits.state.known.design) (sym w.ensures.points) w.ensures.fits
+    record {
+      fits = fits_same (design_view c.args.design.now) (design_view u.store.design.now) points u.notes.points.now c.args.tables.now w.new.room u (sym w.ensures.fits.state.known.design) (sym w.ensures.points) w.ensures.fits;
+    }
 
 pub settle_step-requires : goal.settle_step-requires
 settle_step-requires g c =
