@@ -11,6 +11,7 @@ use Rattle.covered_cli.specs.Scoring.{HasDesign, HasDump, HasSomeDesign, IsContr
 use Rattle.covered_cli.specs.declared.fault.Fault.{Fault}
 use Rattle.covered_cli.specs.declared.fault.Fault.TheVariants.{Usage, Source, Points as PointsFault, Dump, Contradiction, Files as FilesFault, Memory, Databases}
 use Rattle.cover_points.specs.declared.listing.Points.{Points}
+use Rattle.design_model.specs.Points.{StateNames}
 use Rattle.design_model.specs.View.{design_view}
 use Rattle.design_model.specs.declared.design.Design.{Design}
 use Rattle.design_points.specs.Counted.{AreAllPoints}
@@ -61,7 +62,7 @@ pub has_listed : (score : ScoreValues) (before : Outside) (sources : List Source
 has_listed score before sources design points gathered stands all = record { gathered = gathered; stands = stands; few = (points, all.listed, all.few) }
 
 -- a fault of points stands
-pub points_stand : (score : ScoreValues) (before after : Outside) (sources : List SourceText) (design : Design) → HasSources (sources_in score) before sources → StandFor sources (sources_in score).defines score.top design → (fault : Fault) → IsPointsFault design (machines_in score) fault → StandsIn score before after fault
+points_stand : (score : ScoreValues) (before after : Outside) (sources : List SourceText) (design : Design) → HasSources (sources_in score) before sources → StandFor sources (sources_in score).defines score.top design → (fault : Fault) → IsPointsFault design (machines_in score) fault → StandsIn score before after fault
 points_stand score before after sources design gathered stands (Usage usage) is = absurd is
 points_stand score before after sources design gathered stands (Source f) is = absurd is
 points_stand score before after sources design gathered stands (PointsFault p) is = record { sources = sources; design = design; gathered = gathered; stands = stands; is = is }
@@ -70,6 +71,10 @@ points_stand score before after sources design gathered stands (Contradiction fo
 points_stand score before after sources design gathered stands (FilesFault call file) is = absurd is
 points_stand score before after sources design gathered stands Memory is = absurd is
 points_stand score before after sources design gathered stands (Databases f) is = absurd is
+
+-- so does one with equal machines
+pub points_stand_with : (score : ScoreValues) (before after : Outside) (sources : List SourceText) (design : Design) → HasSources (sources_in score) before sources → StandFor sources (sources_in score).defines score.top design → (ms : List StateNames) → ms ≡ machines_in score → (fault : Fault) → IsPointsFault design ms fault → StandsIn score before after fault
+points_stand_with score before after sources design gathered stands ms same fault is = points_stand score before after sources design gathered stands fault (subst (λ ms. IsPointsFault design ms fault) same is)
 
 -- a fault of a file stands
 reading_stands : (score : ScoreValues) (before middle after : Outside) → HasSomeDesign score before → KeepsFiles before middle → CountsUp before middle → CountsUp middle after → (fault : Fault) → IsReadingFault score.dump middle after fault → StandsIn score before after fault

@@ -1,12 +1,13 @@
 use Rattle.std.proofs.Common.{sym, subst}
 use Rattle.std.proofs.lemmas.Result.{err_from_is_err_and}
 use Rattle.command_line.specs.CommandWords.{score_values}
+use Rattle.design_model.specs.View.{design_view}
+use Rattle.design_points.specs.Counted.{AreAllPoints}
 use Rattle.whole_files.proofs.EffectLemmas.{CountsUp-trans, KeepsFiles-trans}
 use Rattle.covered_cli.proofs.Designs.{lawful_design, replayable_design, rooted_design, written_design}
-use Rattle.covered_cli.proofs.Scoring.{IfErr-map, OnOk-map, design_stands, has_listed, others_kept, others_kept_since, points_stand, score_is_done, scoring_stands, writing_is_late, writing_stands}
+use Rattle.covered_cli.proofs.Scoring.{IfErr-map, OnOk-map, design_stands, has_listed, others_kept, others_kept_since, points_stand_with, score_is_done, scoring_stands, writing_is_late, writing_stands}
 use Rattle.covered_cli.proofs.Machines.{listed_with, written_machines}
 use Rattle.covered_cli.proofs.SourceNames.{AreGoodNames, good_names}
-use Rattle.covered_cli.specs.Fault.{IsPointsFault}
 use Rattle.covered_cli.specs.ScoreMachines.{machines_in}
 use Rattle.covered_cli.specs.ScoreSources.{sources_in}
 use Rattle.covered_cli.proofs.score.run_score.Goals as goal
@@ -29,7 +30,7 @@ returns-in_err-points-clause-fault g c =
     let after = g.H.Host.outside c.design_of.new.host in
     let read = c.in_ok-design.ensures.read in
     let fault = err_from_is_err_and c.from_residual-in_err-points.result c.from_residual-in_err-points.ensures.1 in
-    rw (fault.1, fault.2) (points_stand score before after read.sources _ read.gathered read.stands _ (subst (λ ms. IsPointsFault _ ms _) c.in_ok-states.ensures c.in_err-points.ensures.fault))
+    rw (fault.1, fault.2) (points_stand_with score before after read.sources _ read.gathered read.stands _ c.in_ok-states.ensures _ c.in_err-points.ensures.fault)
 
 pub db_of-requires-clause-replayable : goal.db_of-requires-clause-replayable
 db_of-requires-clause-replayable g c = rw c.deref.ensures (replayable_design _ _ _ _ _ _ c.in_ok-design.ensures.read.stands c.in_ok-points.ensures.points)
@@ -75,7 +76,9 @@ returns-clause-done g c =
     let effects = c.in_ok-design.ensures.effects in
     let db = c.in_ok-db.ensures in
     let kept = KeepsFiles-trans before middle later effects.files db.effects.files in
-    OnOk-map c.write.result (score_is_done score read.sources _ _ _ _ before middle later after (has_listed score before read.sources _ _ read.gathered read.stands (listed_with score _ _ _ c.in_ok-states.ensures c.in_ok-points.ensures.points)) read.names effects.files kept (db.scored (machines_in score) (listed_with score _ _ _ c.in_ok-states.ensures c.in_ok-points.ensures.points)) c.in_ok-text.ensures.text) c.write.ensures.written
+    let all = listed_with score _ _ _ c.in_ok-states.ensures c.in_ok-points.ensures.points in
+    let here = subst (λ ps. AreAllPoints (design_view c.in_ok-design.field-0.design) (machines_in score) ps) (sym c.deref.ensures) all in
+    OnOk-map c.write.result (score_is_done score read.sources _ _ _ _ before middle later after (has_listed score before read.sources _ _ read.gathered read.stands all) read.names effects.files kept (db.scored (machines_in score) here) c.in_ok-text.ensures.text) c.write.ensures.written
 
 pub returns-in_err-text-clause-others : goal.returns-in_err-text-clause-others
 returns-in_err-text-clause-others g c =
