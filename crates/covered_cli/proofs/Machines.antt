@@ -22,7 +22,7 @@ record AreNamed (m : StateNames) : Type 0 where
   pub variable : IsTrue (is_identifier m.variable)
   pub names : All (λ name. IsTrue (is_identifier name)) m.names
 
-AllNamed : List StateNames → Type 0
+abbrev AllNamed : List StateNames → Type 0
 AllNamed ms = (m : StateNames) → In m ms → AreNamed m
 
 named_more : (m : StateNames) (ms : List StateNames) → AreNamed m → AllNamed ms → AllNamed (with_machine m ms)

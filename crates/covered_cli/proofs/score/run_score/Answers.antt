@@ -65,6 +65,21 @@ returns-in_err-db-clause-fault g c =
     let fault = err_from_is_err_and c.from_residual-in_err-db.result c.from_residual-in_err-db.ensures.1 in
     rw (fault.1, fault.2) (scoring_stands score read.sources _ before middle after (has_listed score before read.sources _ _ read.gathered read.stands (listed_with score _ _ _ c.in_ok-states.ensures c.in_ok-points.ensures.points)) effects.files effects.counts c.in_err-db.ensures.effects.counts _ c.in_err-db.ensures.fault)
 
+pub returns-in_err-db-clause-early : goal.returns-in_err-db-clause-early
+returns-in_err-db-clause-early g c =
+    let before = g.H.Host.outside c.args.host.now in
+    let middle = g.H.Host.outside c.design_of.new.host in
+    let after = g.H.Host.outside c.db_of.new.host in
+    let fault = err_from_is_err_and c.from_residual-in_err-db.result c.from_residual-in_err-db.ensures.1 in
+    rw (fault.1, fault.2) (λ early. KeepsFiles-trans before middle after c.in_ok-design.ensures.effects.files c.in_err-db.ensures.effects.files)
+
+pub returns-in_err-db-clause-others : goal.returns-in_err-db-clause-others
+returns-in_err-db-clause-others g c =
+    let before = g.H.Host.outside c.args.host.now in
+    let middle = g.H.Host.outside c.design_of.new.host in
+    let after = g.H.Host.outside c.db_of.new.host in
+    others_kept _ before.files after.files (KeepsFiles-trans before middle after c.in_ok-design.ensures.effects.files c.in_err-db.ensures.effects.files)
+
 pub returns-clause-done : goal.returns-clause-done
 returns-clause-done g c =
     let score = score_values c.args.words.now in
