@@ -17,10 +17,6 @@ use Rattle.machine_examples.proofs.Points.{mark_at, marks_each}
 pub chance_example : IsChanceExample
 chance_example =
     record {
-      sure = refl;
-      not_sure = refl;
-      possible = refl;
-      not_possible = refl;
       state = refl;
       no_state = refl;
       open_state = refl;

@@ -9,8 +9,7 @@ use Rattle.cover_points.specs.declared.machine_point.MachinePoint.TheVariants.{A
 use Rattle.point_marks.specs.declared.verdict.Verdict.TheVariants.{Hit, Missed, Undetermined}
 use Rattle.machine_index.specs.Index.{HasSignal, HasValue, IsIndexOf}
 use Rattle.machine_index.specs.declared.index.MachineIndex.{MachineIndex}
-use Rattle.machine_marks.specs.declared.chance.Chance.TheVariants.{Never, Open, Sure}
-use Rattle.machine_marks.specs.Marked.{Chances, MarksMachine, MarksOne, MarksStates, chances_from, chances_of, is_possible, is_sure, marked_if}
+use Rattle.machine_marks.specs.Marked.{Chances, MarksMachine, MarksOne, MarksStates, chances_from, chances_of, marked_if}
 use Rattle.machine_marks.specs.Marked.{is_arc_below, is_arc_from, is_arc_of, is_of_machine, is_point, is_state_of}
 use Rattle.machine_marks.specs.declared.mark.Reason.{Reason}
 
@@ -39,10 +38,6 @@ never = record { sure = false; possible = false }
 
 -- a state is by the end of the step, and an arc by its start and its end; a verdict that is hit stays, and one of another point too
 pub record IsChanceExample : Type 0 where
-  pub sure : is_sure Sure ≡ true
-  pub not_sure : is_sure Open ≡ false
-  pub possible : is_possible Open ≡ true
-  pub not_possible : is_possible Never ≡ false
   pub state : chances_of three at_zero at_one (State 0 1) ≡ surely
   pub no_state : chances_of three at_zero at_one (State 0 0) ≡ never
   pub open_state : chances_of three at_zero half (State 0 0) ≡ perhaps

@@ -59,7 +59,7 @@ left =
     }
 
 pub acting : IsActingExample
-acting = record { sees = refl; listed = refl; not_yet = refl; quietly = refl; by_change = refl; surely = refl; acted = refl }
+acting = record { sees = refl; listed = refl; memory = refl; not_yet = refl; quietly = refl; by_change = refl; surely = refl; acted = refl }
 
 each_row : (p : ℕ) → row_at {T = ℕ} ((3 ∷ []) ∷ []) p ≡ checked code_list (row_at (row ∷ []) p)
 each_row zero = refl
@@ -81,7 +81,7 @@ no_rows =
       written_count = refl;
       written = λ p x n. refl;
       wakes_count = refl;
-      signals = λ p. All-nil _;
+      things = λ p. All-nil _;
     }
 
 pub rows : IsRowsExample
@@ -90,5 +90,5 @@ rows =
       none = no_rows;
       too_few = λ written wakes h. (let q : 0 ≡ 2 = h.targets.count in omega (arith, q));
       unnamed = λ targets wakes h. false≢true (h.written 0 4 (λ e. e));
-      no_signal = λ targets written h. (let q : 5 < 5 = h.signals 0 1 (record { thing = 0; mask = 0; mentioned = false }) (lit< tt) in omega (arith, q));
+      no_signal = λ targets written h. (let q : 5 < 5 = h.things 0 1 (record { thing = 0; mask = 0; mentioned = false }) (lit< tt) in omega (arith, q));
     }

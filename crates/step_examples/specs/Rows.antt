@@ -78,15 +78,16 @@ pub record IsLeftExample : Type 0 where
 abbrev pub watched : List Wake
 watched = record { thing = 2; mask = 1; mentioned = true } ∷ record { thing = 5; mask = 1; mentioned = false } ∷ []
 
--- block 0 has not acted before, where it is not said otherwise
+-- of 6 signals; block 0 has not acted before, where it is not said otherwise
 pub record IsActingExample : Type 0 where
-  pub sees : sees_by watched (2 ∷ []) ≡ true
-  pub listed : sees_by watched (5 ∷ []) ≡ false
-  pub not_yet : acts_by (false ∷ []) 0 (perhaps 7 2) watched (5 ∷ []) ≡ false
-  pub quietly : acts_by (false ∷ []) 0 quiet watched [] ≡ false
-  pub by_change : acts_by (false ∷ []) 0 (perhaps 7 2) watched (2 ∷ []) ≡ true
-  pub surely : acts_by (false ∷ []) 0 (clean 7) watched [] ≡ true
-  pub acted : acts_by (true ∷ []) 0 quiet watched [] ≡ true
+  pub sees : sees_by 6 watched (2 ∷ []) ≡ true
+  pub listed : sees_by 6 watched (5 ∷ []) ≡ false
+  pub memory : sees_by 2 watched (2 ∷ []) ≡ false
+  pub not_yet : acts_by (false ∷ []) 0 (perhaps 7 2) 6 watched (5 ∷ []) ≡ false
+  pub quietly : acts_by (false ∷ []) 0 quiet 6 watched [] ≡ false
+  pub by_change : acts_by (false ∷ []) 0 (perhaps 7 2) 6 watched (2 ∷ []) ≡ true
+  pub surely : acts_by (false ∷ []) 0 (clean 7) 6 watched [] ≡ true
+  pub acted : acts_by (true ∷ []) 0 quiet 6 watched [] ≡ true
 
 -- signal 3 alone is checked: the dump lacks signal 2, and the row has no bit of signal 4
 pub record IsCheckExample : Type 0 where
