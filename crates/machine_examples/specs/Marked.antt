@@ -11,7 +11,6 @@ use Rattle.machine_index.specs.Index.{HasSignal, HasValue, IsIndexOf}
 use Rattle.machine_index.specs.declared.index.MachineIndex.{MachineIndex}
 use Rattle.machine_marks.specs.Marked.{Chances, MarksMachine, MarksOne, MarksStates, chances_from, chances_of, marked_if}
 use Rattle.machine_marks.specs.Marked.{is_arc_below, is_arc_from, is_arc_of, is_of_machine, is_point, is_state_of}
-use Rattle.machine_marks.specs.declared.mark.Reason.{Reason}
 
 -- the values 00, 01 and 10, from the lowest bit up
 abbrev pub three : List Vector
@@ -94,10 +93,6 @@ pub record HasOneMachine (ps : Points) : Type 0 where
   pub nodes : ps.nodes.items ≡ []
   pub toggles : ps.toggles.items ≡ []
 
--- at 5 by signal 1
-abbrev pub reason : Reason
-reason = record { signal = 1; time = 5 }
-
 -- the signal rises: the second state and the arc are hit, and neither the first state, nor is the second passed over
 pub record IsMarksExample (ps : Points) : Type 0 where
   pub machine : MarksMachine ps 0 light 5 (Some Zero ∷ []) (Some One ∷ []) (Missed ∷ Missed ∷ Missed ∷ []) (Missed ∷ Hit ∷ Hit ∷ [])
@@ -105,8 +100,8 @@ pub record IsMarksExample (ps : Points) : Type 0 where
   pub not_passed : MarksMachine ps 0 light 5 (Some Zero ∷ []) (Some One ∷ []) (Missed ∷ Missed ∷ Missed ∷ []) (Missed ∷ Missed ∷ Hit ∷ []) → ⊥
   pub states : MarksStates ps 0 light 5 (Some One ∷ []) (Missed ∷ Missed ∷ Missed ∷ []) (Missed ∷ Hit ∷ Missed ∷ [])
   pub no_arc : MarksStates ps 0 light 5 (Some One ∷ []) (Missed ∷ Missed ∷ Missed ∷ []) (Missed ∷ Hit ∷ Hit ∷ []) → ⊥
-  pub one : MarksOne ps (Arc 0 0 1) reason false true (Hit ∷ Missed ∷ Missed ∷ []) (Hit ∷ Missed ∷ Undetermined (record { thing = 1; time = 5 }) ∷ [])
-  pub not_one : MarksOne ps (Arc 0 0 1) reason false true (Hit ∷ Missed ∷ Missed ∷ []) (Hit ∷ Missed ∷ Missed ∷ []) → ⊥
+  pub one : MarksOne ps (Arc 0 0 1) (record { signal = 1; time = 5 }) false true (Hit ∷ Missed ∷ Missed ∷ []) (Hit ∷ Missed ∷ Undetermined (record { thing = 1; time = 5 }) ∷ [])
+  pub not_one : MarksOne ps (Arc 0 0 1) (record { signal = 1; time = 5 }) false true (Hit ∷ Missed ∷ Missed ∷ []) (Hit ∷ Missed ∷ Missed ∷ []) → ⊥
 
 -- of two signals the second has the machine
 abbrev pub rows : MachineIndex
