@@ -32,7 +32,10 @@ pub(crate) fn warn_of<H: Host>(host: &mut H, fault: &Fault<'_>)
         Fault::Contradiction(found) => warn_contradiction(host, found),
         Fault::Databases(fault) => warn_database(host, fault),
         Fault::Points(fault) => warn_points(host, fault),
-        Fault::Usage(_) | Fault::Files { .. } | Fault::Memory => warn_texts(host, &pieces_of(fault)),
+        Fault::Usage(_) | Fault::Files { .. } | Fault::Memory => warn_texts(
+            host,
+            &pieces_of(fault),
+        ),
     }
 }
 

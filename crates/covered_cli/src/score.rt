@@ -88,11 +88,7 @@ fn design_of<'a, H: Host>(
 }
 
 /// The points of a design with these state machines.
-fn points_of<'a>(
-    alloc: Global,
-    design: &Design,
-    states: &States,
-) -> Result<Box<Points>, Fault<'a>>
+fn points_of<'a>(alloc: Global, design: &Design, states: &States) -> Result<Box<Points>, Fault<'a>>
     requires { IsLawfulDesign (design_view design.now) }
     ensures points { IfOk result (λ points. AreAllPoints (design_view design.now) states.now points.value) }
     ensures fault { IfErr result (IsPointsFault design.now states.now) }
