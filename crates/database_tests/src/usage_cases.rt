@@ -13,13 +13,6 @@ pub(crate) const FAULTS: &[(&[&str], &str)] = &[
     (&["frob"], "unknown command frob"),
     (&["score", "-F", "ctl=st,st"], "unknown word -F"),
     (&["score", "-t", "ff", "zzz", "-t"], "unknown word zzz"),
-    (&["score", "-late", "-late"], "-late given twice"),
-    (&["score", "-states"], "-states needs a value"),
-    (&["score", "-states", "ff=q:A,"], "bad value ff=q:A,"),
-    (&["score", "-states", "ff=q:UP"], "bad value ff=q:UP"),
-    (&["score", "-states", "ff=q:"], "bad value ff=q:"),
-    (&["score", "-states", "ff:A,B"], "bad value ff:A,B"),
-    (&["score", "-late", "-states", "ff=q:A,B"], "missing -t"),
     (&["score", "zzz"], "unknown word zzz"),
     (&["score", "-y", "lib"], "unknown word -y"),
     (&["score", "-x", "ff"], "unknown word -x"),
@@ -100,4 +93,16 @@ pub(crate) const LCOV_FAULTS: &[(&[&str], &str)] = &[
     (&["lcov", "-o", "", "t1.db"], "bad value "),
     (&["lcov", "-o", "x", "-d", "v", "t1.db"], "unknown word -d"),
     (&["lcov", "-o", "x", "a.db", "b.db"], "unknown word b.db"),
+];
+
+/// Words of state machines and of the late habit that are no command, and the fault that is reported.
+#[rattlefmt::skip]
+pub(crate) const MACHINE_FAULTS: &[(&[&str], &str)] = &[
+    (&["score", "-late", "-late"], "-late given twice"),
+    (&["score", "-states"], "-states needs a value"),
+    (&["score", "-states", "ff=q:A,"], "bad value ff=q:A,"),
+    (&["score", "-states", "ff=q:UP"], "bad value ff=q:UP"),
+    (&["score", "-states", "ff=q:"], "bad value ff=q:"),
+    (&["score", "-states", "ff:A,B"], "bad value ff:A,B"),
+    (&["score", "-late", "-states", "ff=q:A,B"], "missing -t"),
 ];

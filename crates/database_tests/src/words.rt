@@ -1,5 +1,5 @@
 //! Each fault as it is reported, and a whole command of each kind.
-use crate::usage_cases::{FAULTS, LCOV_FAULTS};
+use crate::usage_cases::{FAULTS, LCOV_FAULTS, MACHINE_FAULTS};
 use command_line::{
     Command, GivenDefine, GivenDefines, LcovWords, MergeWords, ReportLevel, ReportMetrics,
     ReportWords, ScoreWords, SourceFiles, UsageFault, read_command,
@@ -46,6 +46,13 @@ fn is_refused(alloc: Global, texts: &[&str], text: &str) -> bool {
 #[test]
 fn the_first_fault_is_reported(rt: HostRuntime) {
     for (texts, text) in FAULTS {
+        assert!(rt; is_refused(rt.alloc(), texts, text), "{text}");
+    }
+}
+
+#[test]
+fn the_first_fault_of_machines_is_reported(rt: HostRuntime) {
+    for (texts, text) in MACHINE_FAULTS {
         assert!(rt; is_refused(rt.alloc(), texts, text), "{text}");
     }
 }
