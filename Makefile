@@ -10,9 +10,9 @@
 
 PREFIX ?= /usr/local
 PROGRAM = crates/covered/out/covered
-STAGE = machines-late
-# parts of later stages that are already there: dumps, bindings, merge and report
-AHEAD = merge-report pieces
+STAGE = selfrun
+# a part of a later stage that is already there: dumps are read in pieces
+AHEAD = pieces
 PADS = examples/pads
 ALU = examples/alu
 UART = examples/uart

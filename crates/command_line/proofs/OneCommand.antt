@@ -3,13 +3,15 @@ use Rattle.std.proofs.Common.{◌≡◌, ◌∙◌, ℕ, Bool, true, false, List
 use Rattle.std.specs.List.{last_or}
 use Rattle.command_line.specs.declared.report_level.ReportLevel.{ReportLevel}
 use Rattle.command_line.specs.declared.report_metrics.ReportMetrics.{ReportMetrics}
-use Rattle.command_line.specs.Command.{AreWordsOf, CommandValues, score, merge, report, lcov}
+use Rattle.command_line.specs.Command.{AreWordsOf, CommandValues, score, merge, report, lcov, selfrun}
 use Rattle.command_line.specs.CommandWords.{at_most_one, flag_values, AreValues, GivenOption, IsScore, ScoreValues}
 use Rattle.command_line.specs.Define.{Define}
 use Rattle.command_line.specs.MachineWords.{MachineNames}
 use Rattle.command_line.specs.DatabaseWords.{AreMergeValues, AreReportValues, IsMerge, IsReport, Item, MergeValues, ReportValues}
 use Rattle.command_line.specs.LcovWords.{AreLcovValues, IsLcov, LcovValues}
-use Rattle.command_line.proofs.Outcome.{outcome_of-score, outcome_of-merge, outcome_of-report, outcome_of-lcov}
+use Rattle.command_line.specs.SelfrunWords.{IsSelfrun}
+use Rattle.command_line.specs.declared.selfrun_words.SelfrunWords.{SelfrunWords}
+use Rattle.command_line.proofs.Outcome.{outcome_of-score, outcome_of-merge, outcome_of-report, outcome_of-lcov, outcome_of-selfrun}
 
 -- the values as one
 all_values : (top instance : List ℕ) (sources : List (List ℕ)) (defines : List Define) (folder : Option (List ℕ)) (dump output : List ℕ) (machines : List MachineNames) (late : Bool) → ScoreValues
@@ -82,6 +84,9 @@ one_lcov words a b is_a is_b =
     let same : is_b.0 ≡ is_a.0 = cc in
     one_lcov_values is_a.0 a b is_a.2 (rw (same) at is_b.2)
 
+pub one_selfrun : (words : List (List ℕ)) (a b : SelfrunWords) → IsSelfrun words a → IsSelfrun words b → a ≡ b
+one_selfrun words a b is_a is_b = let e = sym (outcome_of-selfrun words a is_a) ∙ outcome_of-selfrun words b is_b in cc
+
 -- words of one kind of command are none of another kind
 pub one_of_all : (words : List (List ℕ)) (a b : CommandValues) → AreWordsOf a words → AreWordsOf b words → a ≡ b
 one_of_all words (score a) (score b) is_a is_b = ap score (one_command words a b is_a is_b)
@@ -100,3 +105,12 @@ one_of_all words (lcov a) (merge b) is_a is_b = let e = sym (outcome_of-lcov wor
 one_of_all words (merge a) (lcov b) is_a is_b = let e = sym (outcome_of-merge words a is_a) ∙ outcome_of-lcov words b is_b in cc
 one_of_all words (lcov a) (report b) is_a is_b = let e = sym (outcome_of-lcov words a is_a) ∙ outcome_of-report words b is_b in cc
 one_of_all words (report a) (lcov b) is_a is_b = let e = sym (outcome_of-report words a is_a) ∙ outcome_of-lcov words b is_b in cc
+one_of_all words (selfrun a) (selfrun b) is_a is_b = ap selfrun (one_selfrun words a b is_a is_b)
+one_of_all words (selfrun a) (score b) is_a is_b = let e = sym (outcome_of-selfrun words a is_a) ∙ outcome_of-score words b is_b in cc
+one_of_all words (score a) (selfrun b) is_a is_b = let e = sym (outcome_of-score words a is_a) ∙ outcome_of-selfrun words b is_b in cc
+one_of_all words (selfrun a) (merge b) is_a is_b = let e = sym (outcome_of-selfrun words a is_a) ∙ outcome_of-merge words b is_b in cc
+one_of_all words (merge a) (selfrun b) is_a is_b = let e = sym (outcome_of-merge words a is_a) ∙ outcome_of-selfrun words b is_b in cc
+one_of_all words (selfrun a) (report b) is_a is_b = let e = sym (outcome_of-selfrun words a is_a) ∙ outcome_of-report words b is_b in cc
+one_of_all words (report a) (selfrun b) is_a is_b = let e = sym (outcome_of-report words a is_a) ∙ outcome_of-selfrun words b is_b in cc
+one_of_all words (selfrun a) (lcov b) is_a is_b = let e = sym (outcome_of-selfrun words a is_a) ∙ outcome_of-lcov words b is_b in cc
+one_of_all words (lcov a) (selfrun b) is_a is_b = let e = sym (outcome_of-lcov words a is_a) ∙ outcome_of-selfrun words b is_b in cc

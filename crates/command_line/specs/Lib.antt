@@ -16,3 +16,4 @@ pub mod Command
 pub mod GivenValues
 pub mod GivenWords
 pub mod LcovWords
+pub mod SelfrunWords

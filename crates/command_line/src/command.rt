@@ -7,8 +7,11 @@ ghost use Rattle.command_line.specs.WordsLeft.{left_words};
 
 use crate::database_words::{read_lcov, read_merge, read_report};
 use crate::given_values::GivenValues;
+use crate::read_selfrun::read_selfrun;
 use crate::words_left::WordsLeft;
-use crate::{LcovWords, MergeWords, ReportWords, ScoreOption, ScoreWords, UsageFault};
+use crate::{
+    LcovWords, MergeWords, ReportWords, ScoreOption, ScoreWords, SelfrunWords, UsageFault,
+};
 use cov_host::Words;
 
 /// A command with its values.
@@ -22,6 +25,8 @@ pub enum Command<'a> {
     Report(ReportWords<'a>),
     /// Writes a tracefile of lcov.
     Lcov(LcovWords<'a>),
+    /// Scores a design and a dump that the program makes itself, and prints what came out.
+    Selfrun(SelfrunWords),
 }
 
 /// Reads the words that follow the name of the program. It takes no memory. The fault is the first one from
@@ -37,6 +42,10 @@ pub fn read_command<'a>(words: &'a Words) -> Result<Command<'a>, UsageFault<'a>>
         Some("merge") => read_merge(&mut left).map(Command::Merge),
         Some("report") => read_report(&mut left).map(Command::Report),
         Some("lcov") => read_lcov(&mut left).map(Command::Lcov),
+        Some("selfrun") => match read_selfrun(&mut left) {
+            Ok(selfrun) => Ok(Command::Selfrun(selfrun)),
+            Err(fault) => Err(fault),
+        },
         Some(word) => Err(UsageFault::UnknownCommand(word)),
     }
 }

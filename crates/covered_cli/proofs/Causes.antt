@@ -1,12 +1,14 @@
 -- Why a call of the program ends with its status.
 use Rattle.std.proofs.Common.{◌≡◌, ℕ, List, Option, None, Some, Ok, Err, sym, ap, refl, ◌∙◌, inl, inr}
 use Rattle.std.specs.Prelude.{Result, IfErr, OnOk, ◌↔◌}
-use Rattle.command_line.specs.Command.{AreWordsOf, CommandValues, IsCommand, score, merge, report, lcov, command_values}
+use Rattle.command_line.specs.Command.{AreWordsOf, CommandValues, IsCommand, score, merge, report, lcov, selfrun, command_values}
 use Rattle.command_line.specs.CommandWords.{IsScore, ScoreValues, score_values}
 use Rattle.command_line.specs.DatabaseWords.{IsMerge, IsReport, MergeValues, ReportValues, merge_values, report_values}
 use Rattle.command_line.specs.LcovWords.{IsLcov, LcovValues, lcov_values}
+use Rattle.command_line.specs.SelfrunWords.{IsSelfrun}
 use Rattle.command_line.specs.declared.command.Command.{Command}
-use Rattle.command_line.specs.declared.command.Command.TheVariants.{Score, Merge, Report, Lcov}
+use Rattle.command_line.specs.declared.command.Command.TheVariants.{Score, Merge, Report, Lcov, Selfrun}
+use Rattle.command_line.specs.declared.selfrun_words.SelfrunWords.{SelfrunWords}
 use Rattle.command_line.proofs.OneCommand.{one_of_all}
 use Rattle.command_line.proofs.Outcome.{command_without_fault}
 use Rattle.cov_host.specs.Outside.{Outside, Files, Told}
@@ -15,9 +17,10 @@ use Rattle.database_commands.specs.Reporting.{IsReportFault, KeepsUnlessNamed, P
 use Rattle.database_commands.specs.Tracing.{IsLcovFault}
 use Rattle.database_commands.specs.declared.fault.CommandFault.{CommandFault}
 use Rattle.database_commands.specs.declared.fault.CommandFault.TheVariants as database_fault
-use Rattle.covered_cli.specs.Covered.{HasContradiction, IsNoCommand, IsSomeCommand, KeepsUnnamed, PrintsReport, output_in}
+use Rattle.covered_cli.specs.Covered.{HasContradiction, IsNoCommand, IsSomeCommand, KeepsUnnamed, Prints, output_in}
 use Rattle.covered_cli.specs.Databases.{database_status}
 use Rattle.covered_cli.specs.Fault.{IsDatabaseFault, Stands, StandsIn, StandsInDatabases, StandsInWork, output_of, status_of}
+use Rattle.covered_cli.specs.Selfrun.{IsSelfrunFault}
 use Rattle.source_design.specs.declared.fault.SourceFault.{SourceFault}
 use Rattle.source_design.specs.declared.fault.SourceFault.TheVariants as source_fault
 use Rattle.covered_cli.specs.PointsMessage.{points_status}
@@ -25,7 +28,7 @@ use Rattle.covered_cli.specs.SourceMessage.{source_status}
 use Rattle.design_points.specs.cover_points.declared.fault.PointFault.{PointFault}
 use Rattle.design_points.specs.cover_points.declared.fault.PointFault.TheVariants as point_fault
 use Rattle.covered_cli.specs.declared.fault.Fault.{Fault}
-use Rattle.covered_cli.specs.declared.fault.Fault.TheVariants.{Usage, Source, Points as PointsFault, Dump, Contradiction, Files as FilesFault, Memory, Databases}
+use Rattle.covered_cli.specs.declared.fault.Fault.TheVariants.{Usage, Source, Points as PointsFault, Dump, Contradiction, Files as FilesFault, Print, Memory, Databases}
 use Rattle.covered_cli.specs.declared.status.Status.TheVariants as status
 use Rattle.whole_files.proofs.EffectLemmas.{Told-map}
 
@@ -45,7 +48,8 @@ stands_as_score words values before after is (PointsFault p) stands = (values, i
 stands_as_score words values before after is (Dump refusal) stands = (values, is, stands)
 stands_as_score words values before after is (Contradiction found) stands = (values, is, stands)
 stands_as_score words values before after is (FilesFault call file) stands = (values, is, stands)
-stands_as_score words values before after is Memory stands = (values, is, stands)
+stands_as_score words values before after is Print stands = absurd stands
+stands_as_score words values before after is Memory stands = inl (values, is, stands)
 stands_as_score words values before after is (Databases f) stands = absurd stands
 
 stands_as_merge : (words : List (List ℕ)) (values : MergeValues) (before after : Outside) → IsMerge words values → (fault : Fault) → IsDatabaseFault (IsMergeFault values before after) fault → Stands words before after fault
@@ -55,6 +59,7 @@ stands_as_merge words values before after is (PointsFault p) stands = absurd sta
 stands_as_merge words values before after is (Dump refusal) stands = absurd stands
 stands_as_merge words values before after is (Contradiction found) stands = absurd stands
 stands_as_merge words values before after is (FilesFault call file) stands = absurd stands
+stands_as_merge words values before after is Print stands = absurd stands
 stands_as_merge words values before after is Memory stands = absurd stands
 stands_as_merge words values before after is (Databases f) stands = inl (values, is, stands)
 
@@ -65,6 +70,7 @@ stands_as_report words values before after is (PointsFault p) stands = absurd st
 stands_as_report words values before after is (Dump refusal) stands = absurd stands
 stands_as_report words values before after is (Contradiction found) stands = absurd stands
 stands_as_report words values before after is (FilesFault call file) stands = absurd stands
+stands_as_report words values before after is Print stands = absurd stands
 stands_as_report words values before after is Memory stands = absurd stands
 stands_as_report words values before after is (Databases f) stands = inr (inl (values, is, stands))
 
@@ -75,8 +81,20 @@ stands_as_lcov words values before after is (PointsFault p) stands = absurd stan
 stands_as_lcov words values before after is (Dump refusal) stands = absurd stands
 stands_as_lcov words values before after is (Contradiction found) stands = absurd stands
 stands_as_lcov words values before after is (FilesFault call file) stands = absurd stands
+stands_as_lcov words values before after is Print stands = absurd stands
 stands_as_lcov words values before after is Memory stands = absurd stands
 stands_as_lcov words values before after is (Databases f) stands = inr (inr (values, is, stands))
+
+stands_as_selfrun : (words : List (List ℕ)) (values : SelfrunWords) (before after : Outside) → IsSelfrun words values → (fault : Fault) → IsSelfrunFault before after fault → Stands words before after fault
+stands_as_selfrun words values before after is (Usage usage) stands = absurd stands
+stands_as_selfrun words values before after is (Source f) stands = absurd stands
+stands_as_selfrun words values before after is (PointsFault p) stands = absurd stands
+stands_as_selfrun words values before after is (Dump refusal) stands = absurd stands
+stands_as_selfrun words values before after is (Contradiction found) stands = absurd stands
+stands_as_selfrun words values before after is (FilesFault call file) stands = absurd stands
+stands_as_selfrun words values before after is Print stands = (values, is, stands)
+stands_as_selfrun words values before after is Memory stands = inr (values, is, stands)
+stands_as_selfrun words values before after is (Databases f) stands = absurd stands
 
 -- what stands in the work of a command stands in the call of the program
 pub stands_in_call : (words : List (List ℕ)) (command : Command) (before after : Outside) → IsCommand words command → (fault : Fault) → StandsInWork command before after fault → Stands words before after fault
@@ -84,6 +102,7 @@ stands_in_call words (Score values) before after is fault stands = stands_as_sco
 stands_in_call words (Merge values) before after is fault stands = stands_as_merge words (merge_values values) before after is fault stands
 stands_in_call words (Report values) before after is fault stands = stands_as_report words (report_values values) before after is fault stands
 stands_in_call words (Lcov values) before after is fault stands = stands_as_lcov words (lcov_values values) before after is fault stands
+stands_in_call words (Selfrun values) before after is fault stands = stands_as_selfrun words values before after is fault stands
 
 -- the words of a command are one
 pub is_some_command : (words : List (List ℕ)) (command : Command) → IsCommand words command → IsSomeCommand words
@@ -95,6 +114,7 @@ same_output (Score values) = refl
 same_output (Merge values) = refl
 same_output (Report values) = refl
 same_output (Lcov values) = refl
+same_output (Selfrun values) = refl
 
 keeps_by : (words : List (List ℕ)) (values : CommandValues) (output : Option (List ℕ)) → AreWordsOf values words → output_in values ≡ output → (old new : Files) → KeepsUnlessNamed output old new → KeepsUnnamed words old new
 keeps_by words values None is names old new kept name unnamed = kept name
@@ -105,16 +125,17 @@ pub keeps_unnamed : (words : List (List ℕ)) (command : Command) (old new : Opt
 keeps_unnamed words command old new is kept =
     Told-map {R = KeepsUnlessNamed (output_of command)} {S = KeepsUnnamed words} old new (λ x y. keeps_by words (command_values command) (output_of command) is (same_output command) x y) kept
 
--- words that ask for no printed report print nothing
-pub prints_nothing : (words : List (List ℕ)) (command : Command) (before after : Outside) → IsCommand words command → PrintsIfUnnamed (output_of command) before after → (PrintsReport words → ⊥) → after.printed ≡ before.printed
+-- words that ask for nothing printed print nothing
+pub prints_nothing : (words : List (List ℕ)) (command : Command) (before after : Outside) → IsCommand words command → PrintsIfUnnamed (output_of command) before after → (Prints words → ⊥) → after.printed ≡ before.printed
 prints_nothing words (Score values) before after is prints none = prints
 prints_nothing words (Merge values) before after is prints none = prints
 prints_nothing words (Report values) before after is prints none = go (report_values values).output refl prints
   where
     go : (output : Option (List ℕ)) → (report_values values).output ≡ output → PrintsIfUnnamed output before after → after.printed ≡ before.printed
-    go None same prints = absurd (none (report_values values, is, same))
+    go None same prints = absurd (none (inl (report_values values, is, same)))
     go (Some name) same prints = prints
 prints_nothing words (Lcov values) before after is prints none = prints
+prints_nothing words (Selfrun values) before after is prints none = absurd (none (inr (values, is)))
 
 -- the words of a command have no fault
 pub command_or_fault : (words : List (List ℕ)) → IsSomeCommand words → IsNoCommand words → ⊥
@@ -126,10 +147,23 @@ score_or_databases words values before after f is (inl stands) = let e = one_of_
 score_or_databases words values before after f is (inr (inl stands)) = let e = one_of_all words (score values) (report stands.0) is stands.1 in cc
 score_or_databases words values before after f is (inr (inr stands)) = let e = one_of_all words (score values) (lcov stands.0) is stands.1 in cc
 
+-- nor a selfrun
+pub score_or_selfrun : (words : List (List ℕ)) (values : ScoreValues) (other : SelfrunWords) → IsScore words values → IsSelfrun words other → ⊥
+score_or_selfrun words values other is is_other = let e = one_of_all words (score values) (selfrun other) is is_other in cc
+
+pub selfrun_or_databases : (words : List (List ℕ)) (values : SelfrunWords) (before after : Outside) (f : CommandFault) → IsSelfrun words values → StandsInDatabases words before after f → ⊥
+selfrun_or_databases words values before after f is (inl stands) = let e = one_of_all words (selfrun values) (merge stands.0) is stands.1 in cc
+selfrun_or_databases words values before after f is (inr (inl stands)) = let e = one_of_all words (selfrun values) (report stands.0) is stands.1 in cc
+selfrun_or_databases words values before after f is (inr (inr stands)) = let e = one_of_all words (selfrun values) (lcov stands.0) is stands.1 in cc
+
 databases_are_command : (words : List (List ℕ)) (before after : Outside) (f : CommandFault) → StandsInDatabases words before after f → IsSomeCommand words
 databases_are_command words before after f (inl stands) = (merge stands.0, stands.1)
 databases_are_command words before after f (inr (inl stands)) = (report stands.0, stands.1)
 databases_are_command words before after f (inr (inr stands)) = (lcov stands.0, stands.1)
+
+memory_is_command : (words : List (List ℕ)) (before after : Outside) → Stands words before after Memory → IsSomeCommand words
+memory_is_command words before after (inl stands) = (score stands.0, stands.1)
+memory_is_command words before after (inr stands) = (selfrun stands.0, stands.1)
 
 -- no fault of a command over databases is one of usage
 no_usage : (f : CommandFault) → database_status f ≡ status.Usage → ⊥
@@ -160,7 +194,8 @@ usage_exactly words before after (PointsFault p) stands = (λ same. absurd (poin
 usage_exactly words before after (Dump refusal) stands = (λ same. cc, λ none. absurd (command_or_fault words (score stands.0, stands.1) none))
 usage_exactly words before after (Contradiction found) stands = (λ same. cc, λ none. absurd (command_or_fault words (score stands.0, stands.1) none))
 usage_exactly words before after (FilesFault call file) stands = (λ same. cc, λ none. absurd (command_or_fault words (score stands.0, stands.1) none))
-usage_exactly words before after Memory stands = (λ same. cc, λ none. absurd (command_or_fault words (score stands.0, stands.1) none))
+usage_exactly words before after Print stands = (λ same. cc, λ none. absurd (command_or_fault words (selfrun stands.0, stands.1) none))
+usage_exactly words before after Memory stands = (λ same. cc, λ none. absurd (command_or_fault words (memory_is_command words before after stands) none))
 usage_exactly words before after (Databases f) stands = (λ same. absurd (no_usage f same), λ none. absurd (command_or_fault words (databases_are_command words before after f stands) none))
 
 points_no_contradiction : (p : PointFault) → points_status p ≡ status.Contradiction → ⊥
@@ -191,5 +226,6 @@ contradiction_cause words before after (PointsFault p) stands same = absurd (poi
 contradiction_cause words before after (Dump refusal) stands same = absurd (cc)
 contradiction_cause words before after (Contradiction found) stands same = (stands.0, stands.1, found, stands.2)
 contradiction_cause words before after (FilesFault call file) stands same = absurd (cc)
+contradiction_cause words before after Print stands same = absurd (cc)
 contradiction_cause words before after Memory stands same = absurd (cc)
 contradiction_cause words before after (Databases f) stands same = absurd (no_contradiction f same)

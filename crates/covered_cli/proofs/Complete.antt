@@ -2,7 +2,7 @@
 use Rattle.std.proofs.Common.{◌≡◌, inl, inr, ℕ, List, Option, None, Some, refl, sym, ap, subst, ◌∙◌}
 use Rattle.std.specs.Prelude.{IfSome, IsSome, IsSomeAnd, MatchOption}
 use Rattle.command_line.proofs.OneCommand.{one_command, one_of_all}
-use Rattle.command_line.specs.Command.{AreWordsOf, CommandValues, score as of_score, merge as of_merge, report as of_report, lcov as of_lcov}
+use Rattle.command_line.specs.Command.{AreWordsOf, CommandValues, score as of_score, merge as of_merge, report as of_report, lcov as of_lcov, selfrun as of_selfrun}
 use Rattle.command_line.specs.CommandWords.{IsScore, ScoreValues}
 use Rattle.cov_host.specs.Outside.{Files, Outside, IsCounted}
 use Rattle.design_model.specs.Run.{Run}
@@ -30,7 +30,7 @@ use Rattle.source_design.specs.Accepted.{StandFor}
 use Rattle.source_design.specs.Reading.{HasSources, IsSourceFault}
 use Rattle.source_design.specs.declared.fault.SourceFault.{SourceFault}
 use Rattle.source_design.specs.declared.fault.SourceFault.TheVariants as source_fault
-use Rattle.covered_cli.proofs.Causes.{command_or_fault, score_or_databases}
+use Rattle.covered_cli.proofs.Causes.{command_or_fault, score_or_databases, score_or_selfrun, selfrun_or_databases}
 use Rattle.covered_cli.proofs.GoodDumps.{not_contradicted, not_refused, same_bindable, same_bound, same_shown}
 use Rattle.covered_cli.specs.Complete.{EndsWith, HasBadDump, HasBadSource, HasText, HasUnboundDump, HaveTexts, IsCommandWith, IsGoodScore, IsOfBinding, LacksPoints, NoFaults, RefusesBinding, RefusesDump, RefusesPoints}
 use Rattle.covered_cli.specs.Effects.{WarnsLine}
@@ -39,7 +39,9 @@ use Rattle.covered_cli.proofs.Designs.{lawful_design}
 use Rattle.covered_cli.specs.PointsMessage.{points_line, points_status}
 use Rattle.covered_cli.specs.ScoreMachines.{habit_in, machines_in}
 use Rattle.covered_cli.specs.ScoreSources.{sources_in}
-use Rattle.covered_cli.specs.Scoring.{HasDesign, HasNoScore, HasPointsFault, HasSomeDesign, IsContradictedDump, IsContradictedText, IsDone, IsDoneBy, IsDoneIn, IsDumpRefusal, IsRefusedDump}
+use Rattle.covered_cli.specs.Covered.{IsSomeSelfrun}
+use Rattle.covered_cli.specs.Done.{IsDone, IsDoneBy}
+use Rattle.covered_cli.specs.Scoring.{HasDesign, HasNoScore, HasPointsFault, HasSomeDesign, IsContradictedDump, IsContradictedText, IsDoneIn, IsDumpRefusal, IsRefusedDump}
 use Rattle.covered_cli.specs.SourceMessage.{source_status}
 use Rattle.covered_cli.specs.declared.contradiction.Contradiction.{Contradiction}
 use Rattle.covered_cli.specs.declared.dump_refusal.DumpRefusal.{DumpRefusal}
@@ -183,6 +185,7 @@ module _ (words : List (List ℕ)) (score : ScoreValues) (is_score : IsScore wor
   ends_with (fault.Files call file) stands =
       let same = one_command words stands.0 score stands.1 is_score in
       absurd (end.of_file call file.now (subst (λ score. NamesFile score call file.now) same stands.2.0) stands.2.1 (subst (λ score. HasSomeDesign score before) same stands.2.2))
+  ends_with fault.Print stands = absurd (score_or_selfrun words score stands.0 is_score stands.1)
   ends_with fault.Memory stands = end.of_memory
   ends_with (fault.Databases f) stands = absurd (score_or_databases words score before middle f is_score stands)
 
@@ -282,6 +285,7 @@ module _ (words : List (List ℕ)) (before middle after : Outside) (first : Coun
       go (fault.Files call file) stands warned =
           let same = one_command words stands.0 score stands.1 is in
           absurd (file_counted score u.text u.texts.dump_is call file.now (subst (λ score. NamesFile score call file.now) same stands.2.0) stands.2.1 (subst (λ score. HasSomeDesign score before) same stands.2.2))
+      go fault.Print stands warned = absurd (score_or_selfrun words score stands.0 is stands.1)
       go fault.Memory stands warned = inr refl
       go (fault.Databases f) stands warned = absurd (score_or_databases words score before middle f is stands)
 
@@ -310,8 +314,21 @@ module _ (words : List (List ℕ)) (before middle after : Outside) (first : Coun
       go (fault.Files call file) stands warned =
           let has = subst (λ score. HasSomeDesign score before) (one_command words stands.0 score stands.1 is) stands.2.2 in
           absurd (not_listed score before lacks has.0 has.1 has.2)
+      go fault.Print stands warned = absurd (score_or_selfrun words score stands.0 is stands.1)
       go fault.Memory stands warned = inr refl
       go (fault.Databases f) stands warned = absurd (score_or_databases words score before middle f is stands)
+
+-- of a selfrun no fault but want of memory stands where none was counted
+pub selfrun_ends : (words : List (List ℕ)) (before middle after : Outside) → CountsUp before middle → CountsUp middle after → NoFaults before after → (f : Fault) → Stands words before middle f → IsSomeSelfrun words → EndsWith Done (status_of f)
+selfrun_ends words before middle after first second none (fault.Usage usage) stands is = absurd (command_or_fault words (of_selfrun is.0, is.1) (usage, stands))
+selfrun_ends words before middle after first second none (fault.Source f) stands is = absurd (score_or_selfrun words stands.0 is.0 stands.1 is.1)
+selfrun_ends words before middle after first second none (fault.Points p) stands is = absurd (score_or_selfrun words stands.0 is.0 stands.1 is.1)
+selfrun_ends words before middle after first second none (fault.Dump r) stands is = absurd (score_or_selfrun words stands.0 is.0 stands.1 is.1)
+selfrun_ends words before middle after first second none (fault.Contradiction x) stands is = absurd (score_or_selfrun words stands.0 is.0 stands.1 is.1)
+selfrun_ends words before middle after first second none (fault.Files call file) stands is = absurd (score_or_selfrun words stands.0 is.0 stands.1 is.1)
+selfrun_ends words before middle after first second none fault.Print stands is = absurd (none (IsCounted-later before.faults middle.faults after.faults first.faults second.faults stands.2))
+selfrun_ends words before middle after first second none fault.Memory stands is = inr refl
+selfrun_ends words before middle after first second none (fault.Databases f) stands is = absurd (selfrun_or_databases words is.0 before middle f is.1 stands)
 
 module _ (words : List (List ℕ)) (before after : Outside) (done : IsDone words before after) where
   -- what was done is done by the one command that the words are
@@ -323,6 +340,7 @@ module _ (words : List (List ℕ)) (before after : Outside) (done : IsDone words
       by_values (of_merge other) is_other by = let e = one_of_all words (of_merge other) (of_score score) is_other is in absurd (cc)
       by_values (of_report other) is_other by = let e = one_of_all words (of_report other) (of_score score) is_other is in absurd (cc)
       by_values (of_lcov other) is_other by = let e = one_of_all words (of_lcov other) (of_score score) is_other is in absurd (cc)
+      by_values (of_selfrun other) is_other by = absurd (score_or_selfrun words score other is is_other)
 
   pub bad_source_not_done : IsCommandWith HasBadSource words before → ⊥
   bad_source_not_done (score, is, bad) = source_done score before bad.sources bad.told bad.gathered after bad.refused (done_by score is)

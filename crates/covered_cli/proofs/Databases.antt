@@ -3,10 +3,12 @@ use Rattle.std.proofs.Common.{◌≡◌, ◌⊎◌, ℕ, ◌≤◌, List, [], �
 use Rattle.std.proofs.lemmas.List.Elements.{Contains-append_right}
 use Rattle.std.specs.Global.{Global}
 use Rattle.std.specs.Prelude.{Contains, MatchOption}
-use Rattle.command_line.specs.Command.{AreWordsOf, CommandValues, score as of_score, merge as of_merge, report as of_report, lcov as of_lcov}
+use Rattle.command_line.specs.Command.{AreWordsOf, CommandValues, score as of_score, merge as of_merge, report as of_report, lcov as of_lcov, selfrun as of_selfrun}
 use Rattle.command_line.specs.CommandWords.{IsScore, ScoreValues}
 use Rattle.command_line.specs.DatabaseWords.{IsMerge, IsReport, MergeValues, ReportValues}
 use Rattle.command_line.specs.LcovWords.{IsLcov, LcovValues}
+use Rattle.command_line.specs.SelfrunWords.{IsSelfrun}
+use Rattle.command_line.specs.declared.selfrun_words.SelfrunWords.{SelfrunWords}
 use Rattle.command_line.proofs.OneCommand.{one_lcov, one_merge, one_of_all, one_report}
 use Rattle.cov_host.specs.Outside.{Files as HostFiles, IsCounted, Outside}
 use Rattle.database_commands.specs.Faults.{ComesTo, IsMergeFault, IsNoTable, IsReading, IsRefused as IsRefusedFile, inputs_of}
@@ -36,7 +38,7 @@ use Rattle.covered_cli.specs.SourceMessage.{source_status}
 use Rattle.design_points.specs.cover_points.declared.fault.PointFault.{PointFault}
 use Rattle.design_points.specs.cover_points.declared.fault.PointFault.TheVariants as point_fault
 use Rattle.covered_cli.specs.declared.fault.Fault.{Fault}
-use Rattle.covered_cli.specs.declared.fault.Fault.TheVariants.{Usage, Source, Points as PointsFault, Dump, Contradiction, Files as FilesFault, Memory, Databases}
+use Rattle.covered_cli.specs.declared.fault.Fault.TheVariants.{Usage, Source, Points as PointsFault, Dump, Contradiction, Files as FilesFault, Print, Memory, Databases}
 use Rattle.covered_cli.specs.declared.status.Status.TheVariants as status
 use Rattle.covered_cli.proofs.Causes.{command_or_fault}
 
@@ -48,6 +50,7 @@ early_status (PointsFault p) early = tt
 early_status (Dump refusal) early = tt
 early_status (Contradiction found) early = tt
 early_status (FilesFault call file) early = absurd early
+early_status Print early = absurd early
 early_status Memory early = absurd early
 early_status (Databases (database.Files call file)) early = absurd early
 early_status (Databases database.Print) early = absurd early
@@ -66,6 +69,11 @@ good_or_score : (words : List (List ℕ)) (before : Outside) (values : ScoreValu
 good_or_score words before values (inl good) is = let e = one_of_all words (of_merge good.0) (of_score values) good.1 is in cc
 good_or_score words before values (inr (inl good)) is = let e = one_of_all words (of_report good.0) (of_score values) good.1 is in cc
 good_or_score words before values (inr (inr good)) is = let e = one_of_all words (of_lcov good.0) (of_score values) good.1 is in cc
+
+good_or_selfrun : (words : List (List ℕ)) (before : Outside) (values : SelfrunWords) → HasGoodDatabases words before → IsSelfrun words values → ⊥
+good_or_selfrun words before values (inl good) is = let e = one_of_all words (of_merge good.0) (of_selfrun values) good.1 is in cc
+good_or_selfrun words before values (inr (inl good)) is = let e = one_of_all words (of_report good.0) (of_selfrun values) good.1 is in cc
+good_or_selfrun words before values (inr (inr good)) is = let e = one_of_all words (of_lcov good.0) (of_selfrun values) good.1 is in cc
 
 merge_or_report : (words : List (List ℕ)) (merge : MergeValues) (report : ReportValues) → IsMerge words merge → IsReport words report → ⊥
 merge_or_report words merge report is_merge is_report = let e = one_of_all words (of_merge merge) (of_report report) is_merge is_report in cc
@@ -98,6 +106,7 @@ good_databases_end alloc words before middle after first second none (PointsFaul
 good_databases_end alloc words before middle after first second none (Dump refusal) stands good = absurd (good_or_score words before stands.0 good stands.1)
 good_databases_end alloc words before middle after first second none (Contradiction found) stands good = absurd (good_or_score words before stands.0 good stands.1)
 good_databases_end alloc words before middle after first second none (FilesFault call file) stands good = absurd (good_or_score words before stands.0 good stands.1)
+good_databases_end alloc words before middle after first second none Print stands good = absurd (good_or_selfrun words before stands.0 good stands.1)
 good_databases_end alloc words before middle after first second none Memory stands good = inr refl
 good_databases_end alloc words before middle after first second none (Databases f) stands good =
     inr (ap database_status (good_fault alloc words before middle (λ counted. none (IsCounted-later before.faults middle.faults after.faults first.faults second.faults counted)) good f stands))
@@ -150,6 +159,7 @@ database_cause words before after (PointsFault p) stands is = absurd (points_no_
 database_cause words before after (Dump refusal) stands is = absurd (cc)
 database_cause words before after (Contradiction found) stands is = absurd (cc)
 database_cause words before after (FilesFault call file) stands is = absurd (cc)
+database_cause words before after Print stands is = absurd (cc)
 database_cause words before after Memory stands is = absurd (cc)
 database_cause words before after (Databases f) stands is = database_fault_cause words before after f stands is
 
@@ -219,6 +229,7 @@ files_fault_cause words before after (PointsFault p) stands is = absurd (points_
 files_fault_cause words before after (Dump refusal) stands is = absurd (cc)
 files_fault_cause words before after (Contradiction found) stands is = absurd (cc)
 files_fault_cause words before after (FilesFault call file) stands is = score_call words before after stands.0 call file.now stands.1 stands.2.0 stands.2.1
+files_fault_cause words before after Print stands is = inl stands.2
 files_fault_cause words before after Memory stands is = absurd (cc)
 files_fault_cause words before after (Databases f) stands is = databases_files_cause words before after f stands is
 
@@ -311,5 +322,6 @@ module _ (before middle after : Outside) (first : CountsUp before middle) (secon
   stands_later words (Dump refusal) stands = stands
   stands_later words (Contradiction found) stands = stands
   stands_later words (FilesFault call file) stands = (stands.0, stands.1, (stands.2.0, refused_later call file.now stands.2.1, stands.2.2))
+  stands_later words Print stands = (stands.0, stands.1, counted_later stands.2)
   stands_later words Memory stands = stands
   stands_later words (Databases f) stands = databases_stand_later words f stands

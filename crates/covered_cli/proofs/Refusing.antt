@@ -65,18 +65,21 @@ module _ (score : ScoreValues) (design : Design) (before after : Outside) where
   bind_refused bind_fault.NoMemory (fault.Points p) same is = absurd same
   bind_refused bind_fault.NoMemory (fault.Contradiction x) same is = absurd same
   bind_refused bind_fault.NoMemory (fault.Files call file) same is = absurd same
+  bind_refused bind_fault.NoMemory fault.Print same is = absurd same
   bind_refused bind_fault.NoMemory (fault.Databases g) same is = absurd same
   bind_refused bind_fault.NoInstance (fault.Usage usage) same is = absurd same
   bind_refused bind_fault.NoInstance (fault.Source g) same is = absurd same
   bind_refused bind_fault.NoInstance (fault.Points p) same is = absurd same
   bind_refused bind_fault.NoInstance (fault.Contradiction x) same is = absurd same
   bind_refused bind_fault.NoInstance (fault.Files call file) same is = absurd same
+  bind_refused bind_fault.NoInstance fault.Print same is = absurd same
   bind_refused bind_fault.NoInstance (fault.Databases g) same is = absurd same
   bind_refused (bind_fault.InputNotDumped s) (fault.Usage usage) same is = absurd same
   bind_refused (bind_fault.InputNotDumped s) (fault.Source g) same is = absurd same
   bind_refused (bind_fault.InputNotDumped s) (fault.Points p) same is = absurd same
   bind_refused (bind_fault.InputNotDumped s) (fault.Contradiction x) same is = absurd same
   bind_refused (bind_fault.InputNotDumped s) (fault.Files call file) same is = absurd same
+  bind_refused (bind_fault.InputNotDumped s) fault.Print same is = absurd same
   bind_refused (bind_fault.InputNotDumped s) (fault.Databases g) same is = absurd same
 
   -- a fault of the replay
@@ -95,9 +98,11 @@ module _ (score : ScoreValues) (design : Design) (before after : Outside) where
   replay_refused (replay_fault.NoBaseline s) (fault.Source g) same is = absurd same
   replay_refused (replay_fault.NoBaseline s) (fault.Points p) same is = absurd same
   replay_refused (replay_fault.NoBaseline s) (fault.Files call file) same is = absurd same
+  replay_refused (replay_fault.NoBaseline s) fault.Print same is = absurd same
   replay_refused (replay_fault.NoBaseline s) (fault.Databases g) same is = absurd same
   replay_refused (replay_fault.Contradiction s time dumped computed) (fault.Usage usage) same is = absurd same
   replay_refused (replay_fault.Contradiction s time dumped computed) (fault.Source g) same is = absurd same
   replay_refused (replay_fault.Contradiction s time dumped computed) (fault.Points p) same is = absurd same
   replay_refused (replay_fault.Contradiction s time dumped computed) (fault.Files call file) same is = absurd same
+  replay_refused (replay_fault.Contradiction s time dumped computed) fault.Print same is = absurd same
   replay_refused (replay_fault.Contradiction s time dumped computed) (fault.Databases g) same is = absurd same

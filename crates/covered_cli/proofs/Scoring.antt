@@ -1,15 +1,16 @@
 -- From what was read to what a score says.
 use Rattle.std.proofs.Common.{◌≡◌, ◌⊎◌, ℕ, ◌≤◌, List, Option, None, Some, Ok, Err, sym, subst, ◌∙◌, inl, inr}
-use Rattle.std.specs.Prelude.{IfErr, IfSome, MatchOption, Result, OnOk}
+use Rattle.std.specs.Prelude.{IfErr, IfOk, IfSome, MatchOption, Result, OnOk}
 use Rattle.command_line.specs.Command.{IsCommand, command_values}
 use Rattle.command_line.specs.CommandWords.{ScoreValues}
 use Rattle.command_line.specs.declared.command.Command.{Command}
 use Rattle.cov_host.specs.Outside.{Outside, Files, IsCounted, KeepsFiles, SameFiles, Told, HasFile}
 use Rattle.covered_cli.specs.Covered.{KeepsOthers}
 use Rattle.covered_cli.specs.Fault.{IsDesignFault, IsEarly, IsPointsFault, IsReadingFault, IsScoringFault, IsWritingFault, StandsIn}
-use Rattle.covered_cli.specs.Scoring.{HasDesign, HasDump, HasSomeDesign, IsContradictedText, IsDone, IsDoneIn, IsDoneWork, IsDumpRefusal, names_of}
+use Rattle.covered_cli.specs.Done.{IsDone, IsDoneWork}
+use Rattle.covered_cli.specs.Scoring.{HasDesign, HasDump, HasSomeDesign, IsContradictedText, IsDoneIn, IsDumpRefusal, IsTableIn, names_of}
 use Rattle.covered_cli.specs.declared.fault.Fault.{Fault}
-use Rattle.covered_cli.specs.declared.fault.Fault.TheVariants.{Usage, Source, Points as PointsFault, Dump, Contradiction, Files as FilesFault, Memory, Databases}
+use Rattle.covered_cli.specs.declared.fault.Fault.TheVariants.{Usage, Source, Points as PointsFault, Dump, Contradiction, Files as FilesFault, Print, Memory, Databases}
 use Rattle.cover_points.specs.declared.listing.Points.{Points}
 use Rattle.design_model.specs.View.{design_view}
 use Rattle.design_model.specs.declared.design.Design.{Design}
@@ -53,6 +54,7 @@ design_stands score before after (PointsFault p) is = absurd is
 design_stands score before after (Dump refusal) is = absurd is
 design_stands score before after (Contradiction found) is = absurd is
 design_stands score before after (FilesFault call file) is = absurd is
+design_stands score before after Print is = absurd is
 design_stands score before after Memory is = tt
 design_stands score before after (Databases f) is = absurd is
 
@@ -68,6 +70,7 @@ points_stand score before after sources design gathered stands (PointsFault p) i
 points_stand score before after sources design gathered stands (Dump refusal) is = absurd is
 points_stand score before after sources design gathered stands (Contradiction found) is = absurd is
 points_stand score before after sources design gathered stands (FilesFault call file) is = absurd is
+points_stand score before after sources design gathered stands Print is = absurd is
 points_stand score before after sources design gathered stands Memory is = absurd is
 points_stand score before after sources design gathered stands (Databases f) is = absurd is
 
@@ -83,6 +86,7 @@ reading_stands score before middle after has kept first second (FilesFault Read 
 reading_stands score before middle after has kept first second (FilesFault OpenWrite file) is = absurd is
 reading_stands score before middle after has kept first second (FilesFault Write file) is = absurd is
 reading_stands score before middle after has kept first second (FilesFault CloseWrite file) is = absurd is
+reading_stands score before middle after has kept first second Print is = absurd is
 reading_stands score before middle after has kept first second Memory is = tt
 reading_stands score before middle after has kept first second (Databases f) is = absurd is
 
@@ -105,6 +109,7 @@ scoring_stands score sources design before middle after has kept first second (U
 scoring_stands score sources design before middle after has kept first second (PointsFault p) is = absurd is
 scoring_stands score sources design before middle after has kept first second (Source f) is = reading_stands score before middle after (sources, design, has) kept first second (Source f) is
 scoring_stands score sources design before middle after has kept first second (FilesFault call file) is = reading_stands score before middle after (sources, design, has) kept first second (FilesFault call file) is
+scoring_stands score sources design before middle after has kept first second Print is = absurd is
 scoring_stands score sources design before middle after has kept first second Memory is = tt
 scoring_stands score sources design before middle after has kept first second (Databases f) is = absurd is
 
@@ -116,32 +121,43 @@ written_since name text (Some before) None after same written = absurd same
 written_since name text (Some before) (Some middle) None same written = absurd written
 written_since name text (Some before) (Some middle) (Some after) same written = record { named = written.named; others = λ other apart. written.others other apart ∙ same other }
 
--- what was read, scored and written is what the command asks for
-pub score_is_done : (score : ScoreValues) (sources : List SourceText) (names : List (List ℕ)) (text : List ℕ) (design : Design) (db : Db) (before middle later after : Outside) → HasDesign score before sources design → names ≡ names_of sources → KeepsFiles before middle → KeepsFiles before later
-    → IsScoreOfFile score.dump middle (habit_in score) design (machines_in score) names score.instance db → text ≡ text_of db → Told (HasFile score.output text) later.files after.files → IsDoneIn score before after
-score_is_done score sources names text design db before middle later after has are_names kept same scored is_text written = record {
+-- what was read and scored is the table of the command
+pub is_table : (score : ScoreValues) (sources : List SourceText) (names : List (List ℕ)) (design : Design) (db : Db) (before middle : Outside) → HasDesign score before sources design → names ≡ names_of sources → KeepsFiles before middle
+    → IsScoreOfFile score.dump middle (habit_in score) design (machines_in score) names score.instance db → IsTableIn score before db
+is_table score sources names design db before middle has are_names kept scored = record {
   sources = sources;
-  dump = scored.text;
+  text = scored.text;
   design = design;
-  text = text;
+  dump = scored.dump;
   has_design = has;
   dump_is = file_as_before score.dump scored.text before.files middle.files kept scored.is;
+  is_dump = scored.is_dump;
   scores = record {
-    dump = scored.dump;
-    db = db;
-    is_dump = scored.is_dump;
-    scores = record {
-      accepted = record { bound = scored.score.bound; forced = scored.score.forced };
-      table = scored.score.table.table;
-      head = subst (λ ns. HasHead (design_view design) ns db) are_names scored.score.table.head;
-      listed = scored.score.table.listed;
-      sound = scored.score.table.sound;
-      reasoned = scored.score.table.reasoned;
-    };
-    is_text = is_text;
+    accepted = record { bound = scored.score.bound; forced = scored.score.forced };
+    table = scored.score.table.table;
+    head = subst (λ ns. HasHead (design_view design) ns db) are_names scored.score.table.head;
+    listed = scored.score.table.listed;
+    sound = scored.score.table.sound;
+    reasoned = scored.score.table.reasoned;
   };
+}
+
+-- a table that was written is what the command asks for
+pub score_is_done : (score : ScoreValues) (text : List ℕ) (db : Db) (before later after : Outside) → IsTableIn score before db → KeepsFiles before later → text ≡ text_of db → Told (HasFile score.output text) later.files after.files → IsDoneIn score before after
+score_is_done score text db before later after table same is_text written = record {
+  sources = table.sources;
+  dump = table.text;
+  design = table.design;
+  text = text;
+  has_design = table.has_design;
+  dump_is = table.dump_is;
+  scores = record { dump = table.dump; db = db; is_dump = table.is_dump; scores = table.scores; is_text = is_text };
   written = written_since score.output text before.files later.files after.files same written;
 }
+
+-- the sources of a table have a design
+pub has_some_design : (score : ScoreValues) (before : Outside) (db : Db) → IsTableIn score before db → HasSomeDesign score before
+has_some_design score before db table = (table.sources, table.design, table.has_design)
 
 -- what the command asks for is what the words ask for
 pub command_is_done : (words : List (List ℕ)) (command : Command) (before after : Outside) → IsCommand words command → IsDoneWork command before after → IsDone words before after
@@ -150,6 +166,10 @@ command_is_done words command before after is done = (command_values command, is
 pub OnOk-map : {T E P Q : Type 0} (result : Result T E) → (P → Q) → OnOk result P → OnOk result Q
 OnOk-map (Ok value) step holds = step holds
 OnOk-map (Err fault) step holds = tt
+
+pub IfOk-map : {T E : Type 0} {P Q : T → Type 0} (result : Result T E) → ((value : T) → P value → Q value) → IfOk result P → IfOk result Q
+IfOk-map (Ok value) step holds = step value holds
+IfOk-map (Err fault) step holds = tt
 
 pub IfErr-map : {T E : Type 0} {P Q : E → Type 0} (result : Result T E) → ((fault : E) → P fault → Q fault) → IfErr result P → IfErr result Q
 IfErr-map (Ok value) step holds = tt
@@ -167,6 +187,7 @@ writing_stands score before later after has first second (FilesFault Read file) 
 writing_stands score before later after has first second (FilesFault OpenWrite file) is = (is.0, IsCounted-earlier before.faults later.faults after.faults first.faults second.faults is.1, has)
 writing_stands score before later after has first second (FilesFault Write file) is = (is.0, IsCounted-earlier before.faults later.faults after.faults first.faults second.faults is.1, has)
 writing_stands score before later after has first second (FilesFault CloseWrite file) is = (is.0, IsCounted-earlier before.faults later.faults after.faults first.faults second.faults is.1, has)
+writing_stands score before later after has first second Print is = absurd is
 writing_stands score before later after has first second Memory is = tt
 writing_stands score before later after has first second (Databases f) is = absurd is
 
@@ -182,6 +203,7 @@ writing_is_late name before after (FilesFault Read file) is early = is
 writing_is_late name before after (FilesFault OpenWrite file) is early = early
 writing_is_late name before after (FilesFault Write file) is early = early
 writing_is_late name before after (FilesFault CloseWrite file) is early = early
+writing_is_late name before after Print is early = is
 writing_is_late name before after Memory is early = early
 writing_is_late name before after (Databases f) is early = is
 

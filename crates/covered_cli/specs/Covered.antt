@@ -1,9 +1,11 @@
 -- What a call of the program leaves outside, and why it ends with a status above 0.
 use Rattle.std.specs.Prelude.{◌≡◌, ◌≢◌, ◌⊎◌, ℕ, List, [], ◌∷◌, Contains, Option, Some, None, MatchOption}
-use Rattle.command_line.specs.Command.{AreWordsOf, CommandValues, score, merge, report, lcov}
+use Rattle.command_line.specs.Command.{AreWordsOf, CommandValues, score, merge, report, lcov, selfrun}
 use Rattle.command_line.specs.CommandWords.{IsScore, ScoreValues}
 use Rattle.command_line.specs.DatabaseWords.{IsMerge, IsReport, MergeValues, ReportValues}
 use Rattle.command_line.specs.LcovWords.{IsLcov, LcovValues}
+use Rattle.command_line.specs.SelfrunWords.{IsSelfrun}
+use Rattle.command_line.specs.declared.selfrun_words.SelfrunWords.{SelfrunWords}
 use Rattle.command_line.specs.UsageFault.{HasUsageFault}
 use Rattle.command_line.specs.declared.usage_fault.UsageFault.{UsageFault}
 use Rattle.cov_host.specs.Outside.{Outside, Files, IsCounted}
@@ -40,6 +42,7 @@ output_in (score values) = Some values.output
 output_in (merge values) = Some values.output
 output_in (report values) = values.output
 output_in (lcov values) = Some values.output
+output_in (selfrun values) = None
 
 -- the files that a command reads
 abbrev pub inputs_in : CommandValues → List (List ℕ)
@@ -47,6 +50,7 @@ inputs_in (score values) = values.dump ∷ values.sources
 inputs_in (merge values) = inputs_of values
 inputs_in (report values) = values.file ∷ []
 inputs_in (lcov values) = values.file ∷ []
+inputs_in (selfrun values) = []
 
 -- the words name the file for the output
 abbrev pub IsOutput : List (List ℕ) → List ℕ → Type 0
@@ -63,6 +67,14 @@ KeepsUnnamed words old new = (name : List ℕ) → (IsOutput words name → ⊥)
 -- the words ask for a report that is printed
 abbrev pub PrintsReport : List (List ℕ) → Type 0
 PrintsReport words = (values : ReportValues) × IsReport words values × (values.output ≡ None)
+
+-- the words are a selfrun
+abbrev pub IsSomeSelfrun : List (List ℕ) → Type 0
+IsSomeSelfrun words = (values : SelfrunWords) × IsSelfrun words values
+
+-- the words ask for something that is printed
+abbrev pub Prints : List (List ℕ) → Type 0
+Prints words = PrintsReport words ⊎ IsSomeSelfrun words
 
 -- the status is one that comes before the output is opened
 abbrev pub HasEarlyStatus : Status → Type 0

@@ -4,9 +4,11 @@ use Rattle.std.specs.Option.{option_copied}
 use Rattle.command_line.specs.CommandWords.{HaveForms, IsScore, ScoreValues, score_values}
 use Rattle.command_line.specs.DatabaseWords.{IsMerge, IsReport, MergeValues, ReportValues, merge_values, report_values}
 use Rattle.command_line.specs.LcovWords.{IsLcov, LcovValues, lcov_values}
+use Rattle.command_line.specs.SelfrunWords.{IsSelfrun}
+use Rattle.command_line.specs.declared.selfrun_words.SelfrunWords.{SelfrunWords}
 use Rattle.command_line.specs.UsageFault.{HasUsageFault, usage_text}
 use Rattle.command_line.specs.declared.command.Command.{Command}
-use Rattle.command_line.specs.declared.command.Command.TheVariants.{Score, Merge, Report, Lcov}
+use Rattle.command_line.specs.declared.command.Command.TheVariants.{Score, Merge, Report, Lcov, Selfrun}
 use Rattle.cov_host.specs.Outside.{Outside, IsCounted}
 use Rattle.database_commands.specs.Faults.{IsEarly as IsEarlyDatabase, IsMergeFault}
 use Rattle.database_commands.specs.Reporting.{IsReportFault}
@@ -27,6 +29,7 @@ use Rattle.covered_cli.specs.PointsMessage.{points_line, points_status}
 use Rattle.covered_cli.specs.ScoreMachines.{habit_in}
 use Rattle.covered_cli.specs.ScoreSources.{sources_in}
 use Rattle.covered_cli.specs.Scoring.{HasPointsFault, HasSomeDesign, IsContradictedDump, IsContradictedText, IsDumpRefusal, IsRefusedDump}
+use Rattle.covered_cli.specs.Selfrun.{AreSteps, IsSelfrunFault}
 use Rattle.covered_cli.specs.SourceMessage.{source_line, source_status}
 use Rattle.covered_cli.specs.DumpRefusal.{refusal_line}
 use Rattle.source_design.specs.Reading.{IsSourceFault}
@@ -43,6 +46,7 @@ status_of (fault.Points f) = points_status f
 status_of (fault.Dump refusal) = status.Dump
 status_of (fault.Contradiction x) = status.Contradiction
 status_of (fault.Files call file) = status.Files
+status_of fault.Print = status.Files
 status_of fault.Memory = status.Memory
 status_of (fault.Databases f) = database_status f
 
@@ -54,6 +58,7 @@ line_of (fault.Points f) = points_line f
 line_of (fault.Dump refusal) = refusal_line refusal
 line_of (fault.Contradiction x) = contradiction_line x
 line_of (fault.Files call file) = codes "covered: files: " ++ call_name call ++ codes " " ++ file.now ++ codes "\n"
+line_of fault.Print = codes "covered: files: print -\n"
 line_of fault.Memory = codes "covered: memory\n"
 line_of (fault.Databases f) = database_line f
 
@@ -77,6 +82,7 @@ StandsIn score before after (fault.Points f) = HasPointsFault score before f
 StandsIn score before after (fault.Dump refusal) = IsRefusedDump score before refusal
 StandsIn score before after (fault.Contradiction x) = IsContradictedDump score before x
 StandsIn score before after (fault.Files call file) = NamesFile score call file.now × IsRefused call file.now before after × HasSomeDesign score before
+StandsIn score before after fault.Print = ⊥
 StandsIn score before after fault.Memory = Unit {0}
 StandsIn score before after (fault.Databases f) = ⊥
 
@@ -86,13 +92,15 @@ output_of (Score score) = Some score.output.now
 output_of (Merge merge) = Some merge.output.now
 output_of (Report report) = option_copied report.output
 output_of (Lcov lcov) = Some lcov.output.now
+output_of (Selfrun selfrun) = None
 
--- the values of a score have their forms
+-- the values of a score have their forms, and those of a selfrun
 abbrev pub HasForms : Command → Type 0
 HasForms (Score score) = HaveForms (score_values score)
 HasForms (Merge merge) = Unit {0}
 HasForms (Report report) = Unit {0}
 HasForms (Lcov lcov) = Unit {0}
+HasForms (Selfrun selfrun) = AreSteps selfrun
 
 -- the fault is one of a command over databases, of which this holds
 abbrev pub IsDatabaseFault : (CommandFault → Type 0) → Fault → Type 0
@@ -105,6 +113,7 @@ StandsInWork (Score score) before after fault = StandsIn (score_values score) be
 StandsInWork (Merge merge) before after fault = IsDatabaseFault (IsMergeFault (merge_values merge) before after) fault
 StandsInWork (Report report) before after fault = IsDatabaseFault (IsReportFault (report_values report) before after) fault
 StandsInWork (Lcov lcov) before after fault = IsDatabaseFault (IsLcovFault (lcov_values lcov) before after) fault
+StandsInWork (Selfrun selfrun) before after fault = IsSelfrunFault before after fault
 
 -- the words are a command over databases that has the fault
 abbrev pub StandsInDatabases : List (List ℕ) → Outside → Outside → CommandFault → Type 0
@@ -113,17 +122,28 @@ StandsInDatabases words before after f =
     ⊎ ((report : ReportValues) × IsReport words report × IsReportFault report before after f)
     ⊎ ((lcov : LcovValues) × IsLcov words lcov × IsLcovFault lcov before after f)
 
+-- the words are a score that has the fault
+abbrev pub StandsInScore : List (List ℕ) → Outside → Outside → Fault → Type 0
+StandsInScore words before after f = (score : ScoreValues) × IsScore words score × StandsIn score before after f
+
+-- the words are a selfrun that has the fault
+abbrev pub StandsInSelfrun : List (List ℕ) → Outside → Outside → Fault → Type 0
+StandsInSelfrun words before after f = (values : SelfrunWords) × IsSelfrun words values × IsSelfrunFault before after f
+
 -- a call of the program with these words has the fault between two outsides
 abbrev pub Stands : List (List ℕ) → Outside → Outside → Fault → Type 0
 Stands words before after (fault.Usage usage) = HasUsageFault words usage
 Stands words before after (fault.Databases f) = StandsInDatabases words before after f
-Stands words before after other = (score : ScoreValues) × IsScore words score × StandsIn score before after other
+Stands words before after fault.Print = StandsInSelfrun words before after fault.Print
+Stands words before after fault.Memory = StandsInScore words before after fault.Memory ⊎ StandsInSelfrun words before after fault.Memory
+Stands words before after other = StandsInScore words before after other
 
 -- the fault comes before the output is opened
 abbrev pub IsEarly : Fault → Type 0
 IsEarly (fault.Files OpenWrite file) = ⊥
 IsEarly (fault.Files Write file) = ⊥
 IsEarly (fault.Files CloseWrite file) = ⊥
+IsEarly fault.Print = ⊥
 IsEarly fault.Memory = ⊥
 IsEarly (fault.Databases f) = IsEarlyDatabase f
 IsEarly other = Unit {0}

@@ -5,6 +5,8 @@ pub mod Covered
 pub mod Effects
 pub mod Databases
 pub mod Scoring
+pub mod Selfrun
+pub mod Done
 pub mod Refusing
 pub mod Fault
 pub mod Status

@@ -2,15 +2,10 @@
 use Rattle.std.specs.Prelude.{◌≡◌, ℕ, false, List, map}
 use Rattle.std.specs.List.{list_any}
 use Rattle.command_line.specs.CommandWords.{ScoreValues}
-use Rattle.command_line.specs.Command.{AreWordsOf, CommandValues, score as of_score, merge as of_merge, report as of_report, lcov as of_lcov, command_values}
-use Rattle.command_line.specs.declared.command.Command.{Command}
 use Rattle.cov_host.specs.Outside.{Outside, HasFile, Told}
 use Rattle.coverage_db.specs.Table.{IsTable}
 use Rattle.coverage_db.specs.Text.{text_of}
 use Rattle.coverage_db.specs.declared.db.Db.{Db}
-use Rattle.database_commands.specs.Merging.{IsMergedIn}
-use Rattle.database_commands.specs.Reporting.{IsReportedIn}
-use Rattle.database_commands.specs.Tracing.{IsTracedIn}
 use Rattle.design_model.specs.Design.{path_of}
 use Rattle.design_model.specs.Points.{StateNames}
 use Rattle.design_model.specs.View.{design_view}
@@ -124,6 +119,17 @@ IsRefusedDump score before refusal = HasDump score before (λ design text. IsDum
 abbrev pub IsContradictedDump : ScoreValues → Outside → Contradiction → Type 0
 IsContradictedDump score before x = HasDump score before (λ design text. IsContradictedText (habit_in score) design score.instance text x)
 
+-- the table is that of the design of the sources under the dump
+pub record IsTableIn (score : ScoreValues) (before : Outside) (db : Db) : Type 0 where
+  pub sources : List SourceText
+  pub text : List ℕ
+  pub design : Design
+  pub dump : Dump
+  pub has_design : HasDesign score before sources design
+  pub dump_is : IsFile before score.dump text
+  pub is_dump : IsDump text dump
+  pub scores : IsScoreOf (habit_in score) design (machines_in score) dump (names_of sources) score.instance db
+
 -- the output holds the table of the design of the sources under the dump, and every other file is as before
 pub record IsDoneIn (score : ScoreValues) (before after : Outside) : Type 0 where
   pub sources : List SourceText
@@ -134,18 +140,3 @@ pub record IsDoneIn (score : ScoreValues) (before after : Outside) : Type 0 wher
   pub dump_is : IsFile before score.dump dump
   pub scores : IsScoreText (habit_in score) design (machines_in score) (names_of sources) dump score.instance text
   pub written : Told (HasFile score.output text) before.files after.files
-
--- what a command with these values asks for was done
-abbrev pub IsDoneBy : CommandValues → Outside → Outside → Type 0
-IsDoneBy (of_score values) before after = IsDoneIn values before after
-IsDoneBy (of_merge values) before after = IsMergedIn values before after
-IsDoneBy (of_report values) before after = IsReportedIn values before after
-IsDoneBy (of_lcov values) before after = IsTracedIn values before after
-
--- what the command asks for was done
-abbrev pub IsDoneWork : Command → Outside → Outside → Type 0
-IsDoneWork command before after = IsDoneBy (command_values command) before after
-
--- what the words ask for was done
-abbrev pub IsDone : List (List ℕ) → Outside → Outside → Type 0
-IsDone words before after = (values : CommandValues) × AreWordsOf values words × IsDoneBy values before after

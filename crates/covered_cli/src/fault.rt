@@ -30,6 +30,8 @@ pub(crate) enum Fault<'a> {
     Contradiction(Contradiction),
     /// A call on the host gave nothing.
     Files { call: Call, file: &'a str },
+    /// The standard output did not take what was printed.
+    Print,
     Memory,
     /// A command over databases ended without its output.
     Databases(CommandFault<'a>),
@@ -46,7 +48,7 @@ impl Fault<'_> {
             Fault::Points(fault) => points_status(fault),
             Fault::Dump(_) => Status::Dump,
             Fault::Contradiction(_) => Status::Contradiction,
-            Fault::Files { .. } => Status::Files,
+            Fault::Files { .. } | Fault::Print => Status::Files,
             Fault::Memory => Status::Memory,
             Fault::Databases(fault) => database_status(fault),
         }

@@ -23,6 +23,7 @@ mod pieces;
 mod points_message;
 mod score;
 mod score_words;
+mod selfrun;
 mod source_message;
 mod status;
 mod top_call;

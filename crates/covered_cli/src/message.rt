@@ -32,7 +32,9 @@ pub(crate) fn warn_of<H: Host>(host: &mut H, fault: &Fault<'_>)
         Fault::Contradiction(found) => warn_contradiction(host, found),
         Fault::Databases(fault) => warn_database(host, fault),
         Fault::Points(fault) => warn_points(host, fault),
-        Fault::Usage(_) | Fault::Files { .. } | Fault::Memory => warn_texts(host, &pieces_of(fault)),
+        Fault::Usage(_) | Fault::Files { .. } | Fault::Print | Fault::Memory => {
+            warn_texts(host, &pieces_of(fault));
+        }
     }
 }
 
@@ -48,6 +50,7 @@ fn pieces_of<'a>(fault: &Fault<'a>) -> [&'a str; 5]
         | Fault::Contradiction(_)
         | Fault::Databases(_) => ["", "", "", "", ""],
         Fault::Files { call, file } => file_pieces(*call, file),
+        Fault::Print => ["covered: files: print -\n", "", "", "", ""],
         Fault::Memory => ["covered: memory\n", "", "", "", ""],
     }
 }

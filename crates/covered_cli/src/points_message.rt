@@ -34,7 +34,10 @@ pub(crate) fn warn_points<H: Host>(host: &mut H, fault: &PointFault)
         PointFault::NoState(name) => warn_named(host, "1 NoState ", name.as_slice()),
         PointFault::SameState(name) => warn_named(host, "2 SameState ", name.as_slice()),
         PointFault::TooManyPoints => {
-            warn_pieces(host, &["covered: source: points 3 TooManyPoints\n".as_bytes()])
+            warn_pieces(
+                host,
+                &["covered: source: points 3 TooManyPoints\n".as_bytes()],
+            )
         }
         PointFault::TooManyStates(name) => warn_named(host, "4 TooManyStates ", name.as_slice()),
     }

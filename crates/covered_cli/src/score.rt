@@ -20,7 +20,7 @@ ghost use Rattle.covered_cli.specs.Fault.{IsDesignFault, IsPointsFault, StandsIn
 ghost use Rattle.covered_cli.specs.Refusing.{IsBindRefusal, IsReplayRefusal, NamesSignal};
 ghost use Rattle.covered_cli.specs.ScoreMachines.{habit_when};
 ghost use Rattle.covered_cli.specs.ScoreSources.{sources_in};
-ghost use Rattle.covered_cli.specs.Scoring.{IsDoneIn};
+ghost use Rattle.covered_cli.specs.Scoring.{IsDoneIn, IsTableIn};
 ghost use Rattle.covered_cli.specs.declared.fault.Fault.TheVariants as fault_row;
 
 use crate::contradiction::Contradiction;
@@ -40,8 +40,7 @@ use std::alloc::Global;
 use vcd_reader::DumpFault;
 use whole_files::{FileFault, write_file};
 
-/// Scores a dump and writes the database: sources, design, points, dump, binding, verdicts, database, in this order.
-/// The first refusal ends it.
+/// Scores a dump and writes the database. The first refusal ends it.
 pub(crate) fn run_score<'a, H: Host>(
     alloc: Global,
     words: &ScoreWords<'a>,
@@ -55,12 +54,26 @@ pub(crate) fn run_score<'a, H: Host>(
     ensures streams { KeepsStreams (H.outside host.old) (H.outside host.new) }
     ensures counts { CountsUp (H.outside host.old) (H.outside host.new) }
 {
+    let db = table_of(alloc, words, host)?;
+    let text = text_of(alloc, &db)?;
+    write(host, words.output, &text)
+}
+
+/// The table of the command: sources, design, points, dump, binding, verdicts, in this order.
+pub(crate) fn table_of<'a, H: Host>(
+    alloc: Global,
+    words: &ScoreWords<'a>,
+    host: &mut H,
+) -> Result<Db, Fault<'a>>
+    requires { HaveForms (score_values words.now) }
+    ensures table { IfOk result (IsTableIn (score_values words.now) (H.outside host.old)) }
+    ensures fault { IfErr result (StandsIn (score_values words.now) (H.outside host.old) (H.outside host.new)) }
+    ensures effects { OnlyReads (H.outside host.old) (H.outside host.new) }
+{
     let ReadDesign { design, sources } = design_of(alloc, host, words)?;
     let states = states_of(alloc, words.machines)?;
     let points = points_of(alloc, &design, &states)?;
-    let db = db_of(alloc, host, &design, &points, sources, words)?;
-    let text = text_of(alloc, &db)?;
-    write(host, words.output, &text)
+    db_of(alloc, host, &design, &points, sources, words)
 }
 
 /// The design of the command's sources, and the names of the sources.
@@ -88,11 +101,7 @@ fn design_of<'a, H: Host>(
 }
 
 /// The points of a design with these state machines.
-fn points_of<'a>(
-    alloc: Global,
-    design: &Design,
-    states: &States,
-) -> Result<Box<Points>, Fault<'a>>
+fn points_of<'a>(alloc: Global, design: &Design, states: &States) -> Result<Box<Points>, Fault<'a>>
     requires { IsLawfulDesign (design_view design.now) }
     ensures points { IfOk result (λ points. AreAllPoints (design_view design.now) states.now points.value) }
     ensures fault { IfErr result (IsPointsFault design.now states.now) }

@@ -3,14 +3,15 @@ ghost use Rattle.cov_host.specs.Outside.{KeepsFiles, Told};
 ghost use Rattle.database_commands.specs.Reporting.{KeepsUnlessNamed, PrintsIfUnnamed};
 ghost use Rattle.whole_files.specs.Effects.{CountsUp};
 ghost use Rattle.covered_cli.specs.Complete.{EndsWith, HasBadDump, HasBadSource, HasUnboundDump, IsCommandWith, IsGoodScore, LacksPoints, NoFaults, RefusesBinding, RefusesDump, RefusesPoints};
-ghost use Rattle.covered_cli.specs.Covered.{HasContradiction, HasDatabaseCause, HasEarlyStatus, HasFilesCause, HasGoodDatabases, IsNoCommand, IsSomeCommand, KeepsUnnamed, PrintsReport, WarnsFault};
+ghost use Rattle.covered_cli.specs.Covered.{HasContradiction, HasDatabaseCause, HasEarlyStatus, HasFilesCause, HasGoodDatabases, IsNoCommand, IsSomeCommand, IsSomeSelfrun, KeepsUnnamed, Prints, WarnsFault};
+ghost use Rattle.covered_cli.specs.Done.{IsDone, IsDoneWork};
 ghost use Rattle.covered_cli.specs.Fault.{HasForms, IsEarly, Stands, StandsInWork, output_of};
-ghost use Rattle.covered_cli.specs.Scoring.{IsDone, IsDoneWork};
 
 use crate::Status;
 use crate::fault::Fault;
 use crate::message::warn_of;
 use crate::score::run_score;
+use crate::selfrun::run_selfrun;
 use command_line::{Command, read_command};
 use cov_host::{Host, Words};
 use database_commands::{run_lcov, run_merge, run_report};
@@ -19,9 +20,9 @@ use std::alloc::Global;
 /// Does all that the program does with the words that follow its name. A status above 0 is warned of in one line,
 /// and designs that differ in two more.
 pub fn covered<H: Host>(alloc: Global, words: &Words, host: &mut H) -> Status
-    // Nothing is printed except a report for which the words name no file, and no file changes except the one that the
+    // Nothing is printed except a report for which the words name no file and the counts of a selfrun, and no file changes except the one that the
     // words name for the output.
-    ensures printed { (PrintsReport words.now → ⊥) → (H.outside host.new).printed ≡ (H.outside host.old).printed }
+    ensures printed { (Prints words.now → ⊥) → (H.outside host.new).printed ≡ (H.outside host.old).printed }
     ensures others { Told (KeepsUnnamed words.now) (H.outside host.old).files (H.outside host.new).files }
 
     // With status 0 nothing is warned. A status from 1 to 4, and 7, leaves every file, and nothing is printed.
@@ -32,14 +33,17 @@ pub fn covered<H: Host>(alloc: Global, words: &Words, host: &mut H) -> Status
     // With status 0 the output holds what the command asks for: of a score the table of the sources and the dump, with
     // each coverage point once and its verdict, which holds in every run of the design, by the habit of the words, that shows the dump; of a merge the
     // merge of the tables of the files; of a report its text, which was printed where no file is named; of `lcov` the
-    // tracefile of the table of the file.
+    // tracefile of the table of the file. Of a selfrun the counts were printed of the table of its design under its dump, in which no
+    // point is undetermined.
     ensures done { result ≡ Status.Done → IsDone words.now (H.outside host.old) (H.outside host.new) }
 
+    // A selfrun is done, want of memory aside, where no call of the host fails.
     // Where the files are known and no call of the host fails, their texts decide the status, want of memory aside: a dump
     // that some run shows is scored, and one that has a fault is refused, for it or for what no run shows before it. A
     // design whose points with the machines of the words are too many, or that lacks one of these machines, is refused for that, whatever
     // the dump is, and one that the header of a dump does not bind for that, whatever the dump's body holds.
     ensures complete { IsCommandWith IsGoodScore words.now (H.outside host.old) → NoFaults (H.outside host.old) (H.outside host.new) → EndsWith Status.Done result }
+    ensures selfrun { IsSomeSelfrun words.now → NoFaults (H.outside host.old) (H.outside host.new) → EndsWith Status.Done result }
     ensures databases { HasGoodDatabases words.now (H.outside host.old) → NoFaults (H.outside host.old) (H.outside host.new) → EndsWith Status.Done result }
     ensures source { IsCommandWith HasBadSource words.now (H.outside host.old) → NoFaults (H.outside host.old) (H.outside host.new) → EndsWith Status.Source result }
     ensures points { IsCommandWith LacksPoints words.now (H.outside host.old) → NoFaults (H.outside host.old) (H.outside host.new) → RefusesPoints words.now result (H.outside host.old) (H.outside host.new) }
@@ -70,7 +74,7 @@ fn run<'a, H: Host>(alloc: Global, words: &'a Words, host: &mut H) -> Result<(),
     ensures early { IfErr result (λ fault. IsEarly fault → KeepsFiles (H.outside host.old) (H.outside host.new)) }
     ensures unprinted { IfErr result (λ fault. IsEarly fault → (H.outside host.new).printed ≡ (H.outside host.old).printed) }
     ensures others { Told (KeepsUnnamed words.now) (H.outside host.old).files (H.outside host.new).files }
-    ensures printed { (PrintsReport words.now → ⊥) → (H.outside host.new).printed ≡ (H.outside host.old).printed }
+    ensures printed { (Prints words.now → ⊥) → (H.outside host.new).printed ≡ (H.outside host.old).printed }
     ensures warned { (H.outside host.new).warned ≡ (H.outside host.old).warned }
     ensures counts { CountsUp (H.outside host.old) (H.outside host.new) }
 {
@@ -110,5 +114,6 @@ fn run_command<'a, H: Host>(
             Ok(()) => Ok(()),
             Err(fault) => Err(Fault::Databases(fault)),
         },
+        Command::Selfrun(words) => run_selfrun(alloc, words, host),
     }
 }

@@ -126,6 +126,24 @@ const INV_LACKING: &str =
 const INV_DATABASE: &str =
     "covered-db 1\ntop inv\nsource 1 inv.v\ninstance inv inv\npoints 9\nc inv 1 1:1 & 0- = missed\nc inv 1 1:1 & -0 = missed\nc inv 1 1:1 & 11 = hit\nt inv a - 01 = hit\nt inv a - 10 = missed\nt inv b - 01 = missed\nt inv b - 10 = missed\nt inv y - 01 = hit\nt inv y - 10 = missed\nend\n";
 
+/// What two steps from the number 1 print.
+const TWO_STEPS: &str =
+    "covered selfrun 1\ntimes 5\npoints 98\nhit 19\nmissed 79\nundetermined 0\n";
+
+/// What sixteen steps from the number 0 print.
+const SIXTEEN_STEPS: &str =
+    "covered selfrun 1\ntimes 33\npoints 98\nhit 61\nmissed 37\nundetermined 0\n";
+
+/// Many steps.
+const LONG: Case = Case {
+    words: &["selfrun", "7", "1000"],
+    files: &[],
+    status: Status::Done,
+    output: NONE,
+    printed: "covered selfrun 1\ntimes 2001\npoints 98\nhit 98\nmissed 0\nundetermined 0\n",
+    warned: "",
+};
+
 /// The tables.
 const TABLES: &[File] = &[("t1.db", FIRST), ("t2.db", SECOND), ("t5.db", OTHER)];
 
@@ -180,6 +198,16 @@ const DATABASES: &[Case] = &[
     Case { words: &["lcov", "-o", "x.info", "cells.db"], files: &[("cells.db", CELLS), ("x.info", "old")], status: Status::Done, output: ("x.info", TRACED), printed: "", warned: "" },
     Case { words: &["lcov", "cells.db", "-o", "x.info"], files: &[("cells.db", "covered-db 1\ntop\n"), ("x.info", "old")], status: Status::Database, output: ("x.info", "old"), printed: "", warned: "covered: database: cells.db: 1 BadLine 2\n" },
     Case { words: &["lcov", "-o", "x.info"], files: &[("x.info", "old")], status: Status::Usage, output: ("x.info", "old"), printed: "", warned: "covered: usage: missing file\n" },
+];
+
+/// Selfruns, and words that are none.
+#[rattlefmt::skip]
+const SELFRUNS: &[Case] = &[
+    Case { words: &["selfrun", "1", "2"], files: &[], status: Status::Done, output: NONE, printed: TWO_STEPS, warned: "" },
+    Case { words: &["selfrun", "0001", "002"], files: TABLES, status: Status::Done, output: NONE, printed: TWO_STEPS, warned: "" },
+    Case { words: &["selfrun", "0", "16"], files: &[], status: Status::Done, output: NONE, printed: SIXTEEN_STEPS, warned: "" },
+    Case { words: &["selfrun", "1", "1000001"], files: &[], status: Status::Usage, output: NONE, printed: "", warned: "covered: usage: bad value 1000001\n" },
+    Case { words: &["selfrun", "1", "2", "3"], files: &[], status: Status::Usage, output: NONE, printed: "", warned: "covered: usage: unknown word 3\n" },
 ];
 
 /// The words of a case.
@@ -261,4 +289,28 @@ fn scores_and_refuses_an_assignment(rt: HostRuntime) {
 #[test]
 fn joins_and_reports_databases(rt: HostRuntime) {
     assert!(rt; all_end(rt.alloc(), DATABASES));
+}
+
+#[test]
+fn makes_and_scores_a_selfrun(rt: HostRuntime) {
+    assert!(rt; all_end(rt.alloc(), SELFRUNS));
+}
+
+/// Whether two calls of a command print the same on two hosts.
+fn prints_the_same_twice(alloc: Global, case: &Case) -> bool {
+    let (Ok(words), Ok(mut one), Ok(mut other)) = (
+        words_of(alloc, case),
+        host_of(alloc, case),
+        host_of(alloc, case),
+    ) else {
+        return false;
+    };
+    covered(alloc, &words, &mut one) == covered(alloc, &words, &mut other)
+        && one.printed() == other.printed()
+}
+
+#[test]
+fn a_selfrun_prints_the_same_twice(rt: HostRuntime) {
+    assert!(rt; ends(rt.alloc(), &LONG, false));
+    assert!(rt; prints_the_same_twice(rt.alloc(), &LONG));
 }

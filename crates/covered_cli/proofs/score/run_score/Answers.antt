@@ -1,110 +1,47 @@
-use Rattle.std.proofs.Common.{sym, subst}
 use Rattle.std.proofs.lemmas.Result.{err_from_is_err_and}
 use Rattle.command_line.specs.CommandWords.{score_values}
-use Rattle.whole_files.proofs.EffectLemmas.{CountsUp-trans, KeepsFiles-trans}
-use Rattle.covered_cli.proofs.Designs.{lawful_design, replayable_design, rooted_design, written_design}
-use Rattle.covered_cli.proofs.Scoring.{IfErr-map, OnOk-map, design_stands, has_listed, others_kept, others_kept_since, points_stand, score_is_done, scoring_stands, writing_is_late, writing_stands}
-use Rattle.covered_cli.proofs.Machines.{listed_with, written_machines}
-use Rattle.covered_cli.proofs.SourceNames.{AreGoodNames, good_names}
-use Rattle.covered_cli.specs.Fault.{IsPointsFault}
-use Rattle.covered_cli.specs.ScoreMachines.{machines_in}
-use Rattle.covered_cli.specs.ScoreSources.{sources_in}
+use Rattle.covered_cli.proofs.Scoring.{IfErr-map, OnOk-map, has_some_design, others_kept, others_kept_since, score_is_done, writing_is_late, writing_stands}
 use Rattle.covered_cli.proofs.score.run_score.Goals as goal
-
-pub returns-in_err-design-clause-fault : goal.returns-in_err-design-clause-fault
-returns-in_err-design-clause-fault g c =
-    let score = score_values c.args.words.now in
-    let before = g.H.Host.outside c.args.host.now in
-    let after = g.H.Host.outside c.design_of.new.host in
-    let fault = err_from_is_err_and c.from_residual.result c.from_residual.ensures.1 in
-    rw (fault.1, fault.2) (design_stands score before after _ c.in_err-design.ensures.fault)
-
-pub points_of-requires : goal.points_of-requires
-points_of-requires g c = lawful_design _ _ _ _ c.in_ok-design.ensures.read.stands
-
-pub returns-in_err-points-clause-fault : goal.returns-in_err-points-clause-fault
-returns-in_err-points-clause-fault g c =
-    let score = score_values c.args.words.now in
-    let before = g.H.Host.outside c.args.host.now in
-    let after = g.H.Host.outside c.design_of.new.host in
-    let read = c.in_ok-design.ensures.read in
-    let fault = err_from_is_err_and c.from_residual-in_err-points.result c.from_residual-in_err-points.ensures.1 in
-    rw (fault.1, fault.2) (points_stand score before after read.sources _ read.gathered read.stands _ (subst (λ ms. IsPointsFault _ ms _) c.in_ok-states.ensures c.in_err-points.ensures.fault))
-
-pub db_of-requires-clause-replayable : goal.db_of-requires-clause-replayable
-db_of-requires-clause-replayable g c = rw c.deref.ensures (replayable_design _ _ _ _ _ _ c.in_ok-design.ensures.read.stands c.in_ok-points.ensures.points)
-
-pub db_of-requires-clause-points : goal.db_of-requires-clause-points
-db_of-requires-clause-points g c = rw c.deref.ensures (_, c.in_ok-points.ensures.points)
-
-pub db_of-requires-clause-named : goal.db_of-requires-clause-named
-db_of-requires-clause-named g c =
-    let score = score_values c.args.words.now in
-    rw c.deref.ensures (written_machines score _ _ c.requires (listed_with score _ _ _ c.in_ok-states.ensures c.in_ok-points.ensures.points))
-
-pub db_of-requires-clause-rooted : goal.db_of-requires-clause-rooted
-db_of-requires-clause-rooted g c = rooted_design _ _ _ _ c.in_ok-design.ensures.read.stands
-
-pub db_of-requires-clause-written : goal.db_of-requires-clause-written
-db_of-requires-clause-written g c =
-    let score = score_values c.args.words.now in
-    let before = g.H.Host.outside c.args.host.now in
-    let read = c.in_ok-design.ensures.read in
-    let names = subst AreGoodNames (sym read.names) (good_names score before read.sources c.requires read.gathered) in
-    written_design (sources_in score) before _ read names.named names.some
-
-pub returns-in_err-db-clause-fault : goal.returns-in_err-db-clause-fault
-returns-in_err-db-clause-fault g c =
-    let score = score_values c.args.words.now in
-    let before = g.H.Host.outside c.args.host.now in
-    let middle = g.H.Host.outside c.design_of.new.host in
-    let after = g.H.Host.outside c.db_of.new.host in
-    let read = c.in_ok-design.ensures.read in
-    let effects = c.in_ok-design.ensures.effects in
-    let fault = err_from_is_err_and c.from_residual-in_err-db.result c.from_residual-in_err-db.ensures.1 in
-    rw (fault.1, fault.2) (scoring_stands score read.sources _ before middle after (has_listed score before read.sources _ _ read.gathered read.stands (listed_with score _ _ _ c.in_ok-states.ensures c.in_ok-points.ensures.points)) effects.files effects.counts c.in_err-db.ensures.effects.counts _ c.in_err-db.ensures.fault)
 
 pub returns-clause-done : goal.returns-clause-done
 returns-clause-done g c =
     let score = score_values c.args.words.now in
     let before = g.H.Host.outside c.args.host.now in
-    let middle = g.H.Host.outside c.design_of.new.host in
-    let later = g.H.Host.outside c.db_of.new.host in
+    let later = g.H.Host.outside c.table_of.new.host in
     let after = g.H.Host.outside c.write.new.host in
-    let read = c.in_ok-design.ensures.read in
-    let effects = c.in_ok-design.ensures.effects in
     let db = c.in_ok-db.ensures in
-    let kept = KeepsFiles-trans before middle later effects.files db.effects.files in
-    OnOk-map c.write.result (score_is_done score read.sources _ _ _ _ before middle later after (has_listed score before read.sources _ _ read.gathered read.stands (listed_with score _ _ _ c.in_ok-states.ensures c.in_ok-points.ensures.points)) read.names effects.files kept (db.scored (machines_in score) (listed_with score _ _ _ c.in_ok-states.ensures c.in_ok-points.ensures.points)) c.in_ok-text.ensures.text) c.write.ensures.written
+    OnOk-map c.write.result (score_is_done score _ _ before later after db.table db.effects.files c.in_ok-text.ensures.text) c.write.ensures.written
 
 pub returns-in_err-text-clause-others : goal.returns-in_err-text-clause-others
 returns-in_err-text-clause-others g c =
     let before = g.H.Host.outside c.args.host.now in
-    let middle = g.H.Host.outside c.design_of.new.host in
-    let later = g.H.Host.outside c.db_of.new.host in
-    others_kept _ before.files later.files (KeepsFiles-trans before middle later c.in_ok-design.ensures.effects.files c.in_ok-db.ensures.effects.files)
+    let later = g.H.Host.outside c.table_of.new.host in
+    others_kept _ before.files later.files c.in_ok-db.ensures.effects.files
+
+pub returns-in_err-db-clause-others : goal.returns-in_err-db-clause-others
+returns-in_err-db-clause-others g c =
+    let before = g.H.Host.outside c.args.host.now in
+    let later = g.H.Host.outside c.table_of.new.host in
+    others_kept _ before.files later.files c.in_err-db.ensures.effects.files
 
 pub returns-clause-others : goal.returns-clause-others
 returns-clause-others g c =
     let before = g.H.Host.outside c.args.host.now in
-    let middle = g.H.Host.outside c.design_of.new.host in
-    let later = g.H.Host.outside c.db_of.new.host in
+    let later = g.H.Host.outside c.table_of.new.host in
     let after = g.H.Host.outside c.write.new.host in
-    others_kept_since _ before.files later.files after.files (KeepsFiles-trans before middle later c.in_ok-design.ensures.effects.files c.in_ok-db.ensures.effects.files) c.write.ensures.others
+    others_kept_since _ before.files later.files after.files c.in_ok-db.ensures.effects.files c.write.ensures.others
 
 pub returns-clause-fault : goal.returns-clause-fault
 returns-clause-fault g c =
     let score = score_values c.args.words.now in
     let before = g.H.Host.outside c.args.host.now in
-    let middle = g.H.Host.outside c.design_of.new.host in
-    let later = g.H.Host.outside c.db_of.new.host in
+    let later = g.H.Host.outside c.table_of.new.host in
     let after = g.H.Host.outside c.write.new.host in
-    let counts = CountsUp-trans before middle later c.in_ok-design.ensures.effects.counts c.in_ok-db.ensures.effects.counts in
-    let read = c.in_ok-design.ensures.read in
-    IfErr-map c.write.result (writing_stands score before later after (read.sources, _, has_listed score before read.sources _ _ read.gathered read.stands (listed_with score _ _ _ c.in_ok-states.ensures c.in_ok-points.ensures.points)) counts c.write.ensures.counts) c.write.ensures.fault
+    let db = c.in_ok-db.ensures in
+    IfErr-map c.write.result (writing_stands score before later after (has_some_design score before _ db.table) db.effects.counts c.write.ensures.counts) c.write.ensures.fault
 
 pub returns-clause-early : goal.returns-clause-early
 returns-clause-early g c =
-    let later = g.H.Host.outside c.db_of.new.host in
+    let later = g.H.Host.outside c.table_of.new.host in
     let after = g.H.Host.outside c.write.new.host in
     IfErr-map c.write.result (λ fault is early. absurd (writing_is_late _ later after fault is early)) c.write.ensures.fault

@@ -1,7 +1,7 @@
 use Rattle.std.proofs.Common.{◌∙◌, sym}
 use Rattle.whole_files.proofs.EffectLemmas.{KeepsFiles-trans, Told-trans}
 use Rattle.covered_cli.proofs.Causes.{command_or_fault, contradiction_cause, usage_exactly}
-use Rattle.covered_cli.proofs.Complete.{bad_dump_ends, bad_dump_not_done, bad_source_ends, bad_source_not_done, good_ends, points_end, points_not_done, unbound_ends, unbound_not_done}
+use Rattle.covered_cli.proofs.Complete.{bad_dump_ends, bad_dump_not_done, bad_source_ends, bad_source_not_done, good_ends, points_end, points_not_done, selfrun_ends, unbound_ends, unbound_not_done}
 use Rattle.covered_cli.proofs.Databases.{database_cause, early_status, files_cause, good_databases_end, stands_later}
 use Rattle.covered_cli.proofs.Lines.{WarnsLine-since}
 use Rattle.covered_cli.proofs.top_call.covered.Goals as goal
@@ -82,3 +82,6 @@ returns-in-Err-clause-others g c =
     let middle = g.H.Host.outside c.run.new.host in
     let after = g.H.Host.outside c.warn_of.new.host in
     Told-trans before.files middle.files after.files (λ old between new first second name unnamed. second name ∙ first name unnamed) c.run.ensures.others c.warn_of.ensures.files
+
+pub returns-in-Err-clause-selfrun : goal.returns-in-Err-clause-selfrun
+returns-in-Err-clause-selfrun g c is none = rw c.status.ensures (selfrun_ends _ _ _ _ c.run.ensures.counts c.warn_of.ensures.counts none _ c.in-Err.ensures.fault is)

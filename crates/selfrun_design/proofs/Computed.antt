@@ -1,0 +1,44 @@
+-- The tokens and the modules of the text, computed.
+use Rattle.std.proofs.Common.{◌≡◌, List, [], ◌∷◌, Result, Ok, Err, refl, codes}
+use Rattle.cov_host.specs.Identifier.{is_reserved}
+use Rattle.flat_design.specs.Faults.{answer}
+use Rattle.grammar_rules.specs.Grammar.{phrase, whole}
+use Rattle.grammar_rules.specs.Rule.{grow_by, repeat, take_one}
+use Rattle.verilog_grammar.specs.Kind.{kind_of}
+use Rattle.verilog_grammar.specs.Language.{verilog}
+use Rattle.verilog_grammar.specs.Verilog.{grammar}
+use Rattle.verilog_grammar.specs.Parts.{range_rule}
+use Rattle.verilog_grammar.specs.Expressions.{number_rule, select_end_rule, select_rule, selects_rule, exprs_rule, paren_rule, brace_end_rule, braced_rule, cast_rule, prim_rule, unary_rule, operation_rule, product_rule, sum_rule, shift_rule, relation_rule, equality_rule, bitwise_and_rule, bitwise_xor_rule, bitwise_or_rule, logical_and_rule, logical_or_rule, branches_rule, expr_rule, target_name_rule, targets_rule, target_rule}
+use Rattle.verilog_grammar.specs.Statements.{statements_rule, block_rule, if_rule, label_arm_rule, label_arms_rule, default_arm_rule, default_arms_rule, arms_rule, case_rule, set_rule, header_rule, for_rule, assignment_rule, argument_rule, arguments_rule, task_rule, statement_rule}
+use Rattle.verilog_grammar.specs.Modules.{direction_rule, shape_rule, port_rule, entry_rule, entries_rule, plist_rule, header_ports_rule, type_rule, valued_rule, header_param_rule, header_params_rule, port_item_rule, net_rule, net_item_rule, variable_rule, variable_item_rule, integer_item_rule, parameter_item_rule, continuous_item_rule, edge_rule, timed_rule, always_item_rule, initial_item_rule, overrides_rule, connections_rule, one_rule, instance_item_rule, item_rule, items_rule, module_rule, source_rule}
+use Rattle.verilog_lexer.specs.Directive.{directive_of}
+use Rattle.verilog_lexer.specs.Operator.{operator_length}
+use Rattle.verilog_lexer.specs.Piece.{accent_piece, read_piece}
+use Rattle.verilog_lexer.specs.Reading.{inner_at, read_roots, scan, tokens_of}
+use Rattle.verilog_lexer.specs.Tokens.{Lexeme}
+use Rattle.verilog_tree.specs.Tree as t
+use Rattle.selfrun_design.specs.Selfrun.{selfrun}
+use Rattle.selfrun_design.specs.Source.{source}
+
+ok_or_none : {A E : Type 0} → Result (List A) E → List A
+ok_or_none (Ok found) = found
+ok_or_none (Err fault) = []
+
+pub tokens : List Lexeme
+unfolding tokens_of read_roots inner_at scan read_piece accent_piece operator_length directive_of is_reserved ok_or_none
+tokens = ok_or_none (tokens_of (source ∷ []) [])
+
+pub lexed : tokens_of (source ∷ []) [] ≡ Ok tokens
+unfolding tokens_of read_roots inner_at scan read_piece accent_piece operator_length directive_of is_reserved ok_or_none tokens
+lexed = refl
+
+pub modules : List t.Module
+modules = ok_or_none (whole verilog grammar 256 tokens)
+
+pub spelled : whole verilog grammar 256 tokens ≡ Ok modules
+unfolding tokens_of read_roots inner_at scan read_piece accent_piece operator_length directive_of is_reserved ok_or_none tokens modules range_rule number_rule select_end_rule select_rule selects_rule exprs_rule paren_rule brace_end_rule braced_rule cast_rule prim_rule unary_rule operation_rule product_rule sum_rule shift_rule relation_rule equality_rule bitwise_and_rule bitwise_xor_rule bitwise_or_rule logical_and_rule logical_or_rule branches_rule expr_rule target_name_rule targets_rule target_rule statements_rule block_rule if_rule label_arm_rule label_arms_rule default_arm_rule default_arms_rule arms_rule case_rule set_rule header_rule for_rule assignment_rule argument_rule arguments_rule task_rule statement_rule direction_rule shape_rule port_rule entry_rule entries_rule plist_rule header_ports_rule type_rule valued_rule header_param_rule header_params_rule port_item_rule net_rule net_item_rule variable_rule variable_item_rule integer_item_rule parameter_item_rule continuous_item_rule edge_rule timed_rule always_item_rule initial_item_rule overrides_rule connections_rule one_rule instance_item_rule item_rule items_rule module_rule source_rule kind_of phrase whole take_one repeat grow_by
+spelled = refl
+
+pub flat : answer modules (codes "selfrun") ≡ Ok selfrun
+unfolding tokens_of read_roots inner_at scan read_piece accent_piece operator_length directive_of is_reserved ok_or_none tokens modules range_rule number_rule select_end_rule select_rule selects_rule exprs_rule paren_rule brace_end_rule braced_rule cast_rule prim_rule unary_rule operation_rule product_rule sum_rule shift_rule relation_rule equality_rule bitwise_and_rule bitwise_xor_rule bitwise_or_rule logical_and_rule logical_or_rule branches_rule expr_rule target_name_rule targets_rule target_rule statements_rule block_rule if_rule label_arm_rule label_arms_rule default_arm_rule default_arms_rule arms_rule case_rule set_rule header_rule for_rule assignment_rule argument_rule arguments_rule task_rule statement_rule direction_rule shape_rule port_rule entry_rule entries_rule plist_rule header_ports_rule type_rule valued_rule header_param_rule header_params_rule port_item_rule net_rule net_item_rule variable_rule variable_item_rule integer_item_rule parameter_item_rule continuous_item_rule edge_rule timed_rule always_item_rule initial_item_rule overrides_rule connections_rule one_rule instance_item_rule item_rule items_rule module_rule source_rule kind_of phrase whole take_one repeat grow_by
+flat = refl
