@@ -22,7 +22,6 @@ from .texts import source_texts
 from .vectors import digits_of
 from .verdicts import Comparison
 
-NOT_YET = "covered: source: early 1 NotYet\n"
 TOP_SCOPE, ALL_SCOPES = "all of the top", "all"
 
 
@@ -218,8 +217,6 @@ class Trial:
         if done is None:
             return Outcome("scored", Fault("time", "covered does not end"))
         status, said = done
-        if (status, said) == (2, NOT_YET):
-            return Outcome("not yet")
         if status or said:
             return Outcome("scored", Fault(" ".join(said.split()[:5]), f"status {status}: {said}"))
         comparison = Comparison(self.flat, list(self.sources), runs, doubts)
@@ -241,8 +238,6 @@ class Trial:
         if done is None:
             return Outcome("altered and not refused", Fault("time", "covered does not end"))
         status, said = done
-        if (status, said) == (2, NOT_YET):
-            return Outcome("not yet")
         time = run.steps[number].time
         if status == 4 and said.startswith("covered: contradiction: ") and f" at {time}: " in said:
             return Outcome("contradicted")
