@@ -1,3 +1,3 @@
-pub mod Naming
+pub mod Arms
 pub mod NamesLaw
 pub mod AssignedLaw

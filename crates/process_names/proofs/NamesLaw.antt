@@ -1,11 +1,11 @@
 -- What a text names is what it mentions.
-use Rattle.std.proofs.Common.{◌≡◌, ◌∙◌, ℕ, Bool, true, false, ◌==◌, ◌||◌, List, [], ◌∷◌, ◌++◌, refl, sym, ap, ap₂}
+use Rattle.std.proofs.Common.{◌≡◌, ◌∙◌, ℕ, Bool, true, false, ◌==◌, ◌||◌, if◌then◌else◌, List, [], ◌∷◌, ◌++◌, refl, sym, ap, ap₂}
 use Rattle.std.specs.List.{list_any}
-use Rattle.std.proofs.lemmas.List.Concat.{flat_map-append}
-use Rattle.design_model.specs.Mentions.{all_body_terms, all_index_terms, all_subterms, arm_terms, arms_mention, body_mentions, body_mentions_all, body_terms, index_mentions, index_terms, indexes_mention, mentions, mentions_any, subterms}
+use Rattle.design_model.specs.Execution.{is_default}
+use Rattle.design_model.specs.Mentions.{arms_mention, body_mentions, body_mentions_all, index_mentions, indexes_mention, mentions, mentions_any}
 use Rattle.design_model.specs.Tree.{Arms, Process, Stmt, Stmts, Target, Targets, Term, Terms, a_stmt, a_target, a_term, all_of, arm, assign, binary, bit, bits_of, block, branch, choice, clocked, comb, concat, empty, no_arms, no_stmts, no_targets, no_terms, number, part, repeat, select, set, several, sign, signal, slide, turns, unary, word, word_of}
 use Rattle.design_model.specs.Machine.{is_level}
-use Rattle.process_names.specs.Names.{level_names, name_of, names_in}
+use Rattle.process_names.specs.Names.{all_body_names, all_index_names, all_term_names, arm_names, body_names, default_names, index_names, level_names, term_names}
 
 -- the number is in the list
 abbrev has : ℕ → List ℕ → Bool
@@ -19,67 +19,98 @@ or_assoc : (a b c : Bool) → ((a || b) || c) ≡ (a || (b || c))
 or_assoc true b c = refl
 or_assoc false b c = refl
 
+or_swaps : (a b : Bool) → (b || a) ≡ (a || b)
+or_swaps true true = refl
+or_swaps true false = refl
+or_swaps false true = refl
+or_swaps false false = refl
+
+-- of three, the last of which was named first
+or_turns : (a b c : Bool) → ((b || c) || a) ≡ (a || (b || c))
+or_turns a b c = or_swaps a (b || c)
+
 pub has-append : (x : ℕ) (xs ys : List ℕ) → has x (xs ++ ys) ≡ (has x xs || has x ys)
 has-append x [] ys = refl
 has-append x (z ∷ xs) ys = ap (λ b. (z == x) || b) (has-append x xs ys) ∙ sym (or_assoc (z == x) (has x xs) (has x ys))
 
--- what two lists of terms name
-two : (x : ℕ) (xs ys : List Term) (a b : Bool) → has x (names_in xs) ≡ a → has x (names_in ys) ≡ b → has x (names_in (xs ++ ys)) ≡ (a || b)
-two x xs ys a b p q = ap (has x) (flat_map-append name_of xs ys) ∙ has-append x (names_in xs) (names_in ys) ∙ ap₂ (λ m n. m || n) p q
+-- what two lists have, and what three have
+two : (x : ℕ) (xs ys : List ℕ) (a b : Bool) → has x xs ≡ a → has x ys ≡ b → has x (xs ++ ys) ≡ (a || b)
+two x xs ys a b p q = has-append x xs ys ∙ ap₂ (λ m n. m || n) p q
 
-three : (x : ℕ) (xs ys zs : List Term) (a b c : Bool) → has x (names_in xs) ≡ a → has x (names_in ys) ≡ b → has x (names_in zs) ≡ c → has x (names_in (xs ++ ys ++ zs)) ≡ (a || (b || c))
+three : (x : ℕ) (xs ys zs : List ℕ) (a b c : Bool) → has x xs ≡ a → has x ys ≡ b → has x zs ≡ c → has x (xs ++ ys ++ zs) ≡ (a || (b || c))
 three x xs ys zs a b c p q r = two x (xs ++ ys) zs (a || b) c (two x xs ys a b p q) r ∙ or_assoc a b c
+
+-- the statement of an arm stands with its labels, or behind all arms
+either_place : (x : ℕ) (d : Bool) (labels here arms later : List ℕ) (a b c : Bool) → has x labels ≡ a → has x here ≡ b → (has x arms || has x later) ≡ c
+    → (has x (labels ++ (if d then [] else here) ++ arms) || has x ((if d then here else []) ++ later)) ≡ (a || (b || c))
+either_place x true labels here arms later a b c p q r =
+    ap₂ (λ m n. m || n) (three x labels [] arms a false (has x arms) p refl refl) (two x here later b (has x later) q refl) ∙ default_last a b (has x arms) (has x later) ∙ ap (λ m. a || (b || m)) r
+  where
+    default_last : (a b m n : Bool) → ((a || (false || m)) || (b || n)) ≡ (a || (b || (m || n)))
+    default_last true b m n = refl
+    default_last false true true n = refl
+    default_last false true false n = refl
+    default_last false false m n = refl
+either_place x false labels here arms later a b c p q r =
+    ap₂ (λ m n. m || n) (three x labels here arms a b (has x arms) p q refl) refl ∙ in_place a b (has x arms) (has x later) ∙ ap (λ m. a || (b || m)) r
+  where
+    in_place : (a b m n : Bool) → ((a || (b || m)) || n) ≡ (a || (b || (m || n)))
+    in_place true b m n = refl
+    in_place false true m n = refl
+    in_place false false m n = refl
 
 module _ (x : ℕ) where
   mutual
-    term_names : (t : Term) → has x (names_in (subterms t)) ≡ mentions x t
-    term_names (number h n) = refl
-    term_names (signal h s) = or_right_false (s == x)
-    term_names (word h m i) = ap (λ b. (m == x) || b) (term_names i)
-    term_names (bit h t i) = two x (subterms t) (subterms i) _ _ (term_names t) (term_names i)
-    term_names (part h t i j) = three x (subterms t) (subterms i) (subterms j) _ _ _ (term_names t) (term_names i) (term_names j)
-    term_names (slide h t b w up) = three x (subterms t) (subterms b) (subterms w) _ _ _ (term_names t) (term_names b) (term_names w)
-    term_names (unary h op t) = term_names t
-    term_names (binary h op t u) = two x (subterms t) (subterms u) _ _ (term_names t) (term_names u)
-    term_names (choice h c t u) = three x (subterms c) (subterms t) (subterms u) _ _ _ (term_names c) (term_names t) (term_names u)
-    term_names (concat h ts) = terms_names ts
-    term_names (repeat h n ts) = two x (subterms n) (all_subterms ts) _ _ (term_names n) (terms_names ts)
-    term_names (sign h s t) = term_names t
+    pub term_is : (t : Term) → has x (term_names t) ≡ mentions x t
+    term_is (number h n) = refl
+    term_is (signal h s) = or_right_false (s == x)
+    term_is (word h m i) = two x (term_names i) (m ∷ []) _ _ (term_is i) (or_right_false (m == x)) ∙ or_swaps (m == x) (mentions x i)
+    term_is (bit h t i) = two x (term_names i) (term_names t) _ _ (term_is i) (term_is t) ∙ or_swaps (mentions x t) (mentions x i)
+    term_is (part h t i j) = two x (term_names i ++ term_names j) (term_names t) _ _ (two x (term_names i) (term_names j) _ _ (term_is i) (term_is j)) (term_is t) ∙ or_turns (mentions x t) (mentions x i) (mentions x j)
+    term_is (slide h t b w up) = two x (term_names b ++ term_names w) (term_names t) _ _ (two x (term_names b) (term_names w) _ _ (term_is b) (term_is w)) (term_is t) ∙ or_turns (mentions x t) (mentions x b) (mentions x w)
+    term_is (unary h op t) = term_is t
+    term_is (binary h op t u) = two x (term_names t) (term_names u) _ _ (term_is t) (term_is u)
+    term_is (choice h c t u) = three x (term_names c) (term_names t) (term_names u) _ _ _ (term_is c) (term_is t) (term_is u)
+    term_is (concat h ts) = terms_are ts
+    term_is (repeat h n ts) = two x (term_names n) (all_term_names ts) _ _ (term_is n) (terms_are ts)
+    term_is (sign h s t) = term_is t
 
-    terms_names : (ts : Terms) → has x (names_in (all_subterms ts)) ≡ mentions_any x ts
-    terms_names no_terms = refl
-    terms_names (a_term t ts) = two x (subterms t) (all_subterms ts) _ _ (term_names t) (terms_names ts)
-
-  mutual
-    target_index_names : (y : Target) → has x (names_in (index_terms y)) ≡ index_mentions x y
-    target_index_names (all_of s) = refl
-    target_index_names (bits_of s low w) = term_names low
-    target_index_names (word_of m i) = term_names i
-    target_index_names (several ts) = targets_index_names ts
-
-    targets_index_names : (ts : Targets) → has x (names_in (all_index_terms ts)) ≡ indexes_mention x ts
-    targets_index_names no_targets = refl
-    targets_index_names (a_target t ts) = two x (index_terms t) (all_index_terms ts) _ _ (target_index_names t) (targets_index_names ts)
+    terms_are : (ts : Terms) → has x (all_term_names ts) ≡ mentions_any x ts
+    terms_are no_terms = refl
+    terms_are (a_term t ts) = two x (term_names t) (all_term_names ts) _ _ (term_is t) (terms_are ts)
 
   mutual
-    stmt_names : (s : Stmt) → has x (names_in (body_terms s)) ≡ body_mentions x s
-    stmt_names (block p ss) = stmts_names ss
-    stmt_names (branch p n t s other) = three x (subterms t) (body_terms s) (all_body_terms other) _ _ _ (term_names t) (stmt_names s) (stmts_names other)
-    stmt_names (select p n kind t arms) = two x (subterms t) (arm_terms arms) _ _ (term_names t) (arms_names arms)
-    stmt_names (turns p n ss) = stmts_names ss
-    stmt_names (set p n blocking y t) = two x (index_terms y) (subterms t) _ _ (target_index_names y) (term_names t)
-    stmt_names (empty p) = refl
+    index_is : (y : Target) → has x (index_names y) ≡ index_mentions x y
+    index_is (all_of s) = refl
+    index_is (bits_of s low w) = term_is low
+    index_is (word_of m i) = term_is i
+    index_is (several ts) = indexes_are ts
 
-    stmts_names : (ss : Stmts) → has x (names_in (all_body_terms ss)) ≡ body_mentions_all x ss
-    stmts_names no_stmts = refl
-    stmts_names (a_stmt s ss) = two x (body_terms s) (all_body_terms ss) _ _ (stmt_names s) (stmts_names ss)
+    indexes_are : (ts : Targets) → has x (all_index_names ts) ≡ indexes_mention x ts
+    indexes_are no_targets = refl
+    indexes_are (a_target t ts) = two x (index_names t) (all_index_names ts) _ _ (index_is t) (indexes_are ts)
 
-    arms_names : (arms : Arms) → has x (names_in (arm_terms arms)) ≡ arms_mention x arms
-    arms_names no_arms = refl
-    arms_names (arm labels s arms) = three x (all_subterms labels) (body_terms s) (arm_terms arms) _ _ _ (terms_names labels) (stmt_names s) (arms_names arms)
+  mutual
+    pub body_is : (s : Stmt) → has x (body_names s) ≡ body_mentions x s
+    body_is (block p ss) = bodies_are ss
+    body_is (branch p n t s other) = three x (term_names t) (body_names s) (all_body_names other) _ _ _ (term_is t) (body_is s) (bodies_are other)
+    body_is (select p n kind t arms) =
+        three x (term_names t) (arm_names arms) (default_names arms) _ _ _ (term_is t) refl refl ∙ ap (λ b. mentions x t || b) (arms_are arms)
+    body_is (turns p n ss) = bodies_are ss
+    body_is (set p n blocking y t) = two x (index_names y) (term_names t) _ _ (index_is y) (term_is t)
+    body_is (empty p) = refl
+
+    bodies_are : (ss : Stmts) → has x (all_body_names ss) ≡ body_mentions_all x ss
+    bodies_are no_stmts = refl
+    bodies_are (a_stmt s ss) = two x (body_names s) (all_body_names ss) _ _ (body_is s) (bodies_are ss)
+
+    arms_are : (arms : Arms) → (has x (arm_names arms) || has x (default_names arms)) ≡ arms_mention x arms
+    arms_are no_arms = refl
+    arms_are (arm labels s arms) =
+        either_place x (is_default labels) (all_term_names labels) (body_names s) (arm_names arms) (default_names arms) _ _ _ (terms_are labels) (body_is s) (arms_are arms)
 
   -- what wakes a process at each change is what it mentions or lists
   pub level_is : (p : Process) → list_any (λ y. y == x) (level_names p) ≡ is_level p x
-  level_is (assign i y t counted) = two x (index_terms y) (subterms t) _ _ (target_index_names y) (term_names t)
-  level_is (comb i wakes s) = has-append x (names_in (body_terms s)) wakes ∙ ap (λ b. b || has x wakes) (stmt_names s)
+  level_is (assign i y t counted) = two x (index_names y) (term_names t) _ _ (index_is y) (term_is t)
+  level_is (comb i wakes s) = has-append x (body_names s) wakes ∙ ap (λ b. b || has x wakes) (body_is s)
   level_is (clocked i events s) = refl

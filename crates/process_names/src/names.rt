@@ -1,10 +1,10 @@
-#![tactic(auto, using(crate::proofs::Naming::joined_names))]
-//! The signals and memories that the text of a process mentions or lists.
+#![tactic(auto, using(std::proofs::lemmas::List::append_assoc))]
+//! The signals and memories that the text of a process mentions or lists, in the order in which its execution reads.
 
 ghost use Rattle.std.specs.Prelude.{◌≡◌, ◌++◌, ◌∷◌, [], OnOk, map};
-ghost use Rattle.design_model.specs.Mentions.{all_body_terms, all_index_terms, all_subterms, arm_terms, body_terms, index_terms, subterms};
+ghost use Rattle.design_model.specs.Execution.{is_default};
 ghost use Rattle.design_model.specs.View.{arms_of, process_view, stmt_view, stmts_of, target_view, targets_of, term_view, terms_of};
-ghost use Rattle.process_names.specs.Names.{arm_view, inner_terms, level_names, name_of, names_in};
+ghost use Rattle.process_names.specs.Names.{all_body_names, all_index_names, all_term_names, arm_names, arm_view, body_names, default_names, index_names, level_names, term_names};
 
 use cov_host::NoMemory;
 use design_model::{CaseArm, Form, Process, Stmt, StmtForm, Target, Term};
@@ -30,7 +30,7 @@ pub fn push_level(process: &Process, found: &mut Vec<u32>) -> Result<(), NoMemor
 /// Adds what a statement mentions.
 #[cycle(statements)]
 fn push_stmt(stmt: &Stmt, found: &mut Vec<u32>) -> Result<(), NoMemory>
-    ensures { OnOk result (found.new.items ≡ found.old.items ++ names_in (body_terms (stmt_view stmt.now))) }
+    ensures { OnOk result (found.new.items ≡ found.old.items ++ body_names (stmt_view stmt.now)) }
 {
     match &*stmt.form {
         StmtForm::Block(parts) => push_stmts(parts, found),
@@ -44,7 +44,8 @@ fn push_stmt(stmt: &Stmt, found: &mut Vec<u32>) -> Result<(), NoMemory>
         }
         StmtForm::Case { on, arms, .. } => {
             push_term(on, found)?;
-            push_arms(arms, found)
+            push_arms(arms, found)?;
+            push_default(arms, found)
         }
         StmtForm::Turns { turns, .. } => push_stmts(turns, found),
         StmtForm::Set { target, value, .. } => {
@@ -58,7 +59,7 @@ fn push_stmt(stmt: &Stmt, found: &mut Vec<u32>) -> Result<(), NoMemory>
 /// Adds what statements mention.
 #[cycle(statements)]
 fn push_stmts(stmts: &[Stmt], found: &mut Vec<u32>) -> Result<(), NoMemory>
-    ensures { OnOk result (found.new.items ≡ found.old.items ++ names_in (all_body_terms (stmts_of (map stmt_view stmts.now)))) }
+    ensures { OnOk result (found.new.items ≡ found.old.items ++ all_body_names (stmts_of (map stmt_view stmts.now))) }
 {
     for stmt in stmts {
         push_stmt(stmt, found)?;
@@ -66,22 +67,45 @@ fn push_stmts(stmts: &[Stmt], found: &mut Vec<u32>) -> Result<(), NoMemory>
     Ok(())
 }
 
-/// Adds what the arms of a case mention.
+/// Adds what the labels of a case mention, and behind those of an arm what its statement mentions, but not what the
+/// default mentions.
 #[cycle(statements)]
 fn push_arms(arms: &[CaseArm], found: &mut Vec<u32>) -> Result<(), NoMemory>
-    ensures { OnOk result (found.new.items ≡ found.old.items ++ names_in (arm_terms (arms_of (map arm_view arms.now)))) }
+    ensures { OnOk result (found.new.items ≡ found.old.items ++ arm_names (arms_of (map arm_view arms.now))) }
 {
     for arm in arms {
         push_terms(&arm.labels, found)?;
-        push_stmt(&arm.body, found)?;
+        if !is_default(arm) {
+            push_stmt(&arm.body, found)?;
+        }
     }
     Ok(())
+}
+
+/// Adds what the default of a case mentions, which is run after all labels were read.
+#[cycle(statements)]
+fn push_default(arms: &[CaseArm], found: &mut Vec<u32>) -> Result<(), NoMemory>
+    ensures { OnOk result (found.new.items ≡ found.old.items ++ default_names (arms_of (map arm_view arms.now))) }
+{
+    for arm in arms {
+        if is_default(arm) {
+            push_stmt(&arm.body, found)?;
+        }
+    }
+    Ok(())
+}
+
+/// Whether an arm is a `default`.
+fn is_default(arm: &CaseArm) -> bool
+    ensures { result ≡ is_default (arm_view arm.now).0 }
+{
+    arm.labels.is_empty()
 }
 
 /// Adds what the indexes in a target name.
 #[cycle(targets)]
 fn push_target(target: &Target, found: &mut Vec<u32>) -> Result<(), NoMemory>
-    ensures { OnOk result (found.new.items ≡ found.old.items ++ names_in (index_terms (target_view target.now))) }
+    ensures { OnOk result (found.new.items ≡ found.old.items ++ index_names (target_view target.now)) }
 {
     match target {
         Target::Whole(_) => Ok(()),
@@ -94,7 +118,7 @@ fn push_target(target: &Target, found: &mut Vec<u32>) -> Result<(), NoMemory>
 /// Adds what the indexes in targets name.
 #[cycle(targets)]
 fn push_targets(targets: &[Target], found: &mut Vec<u32>) -> Result<(), NoMemory>
-    ensures { OnOk result (found.new.items ≡ found.old.items ++ names_in (all_index_terms (targets_of (map target_view targets.now)))) }
+    ensures { OnOk result (found.new.items ≡ found.old.items ++ all_index_names (targets_of (map target_view targets.now))) }
 {
     for target in targets {
         push_target(target, found)?;
@@ -102,31 +126,26 @@ fn push_targets(targets: &[Target], found: &mut Vec<u32>) -> Result<(), NoMemory
     Ok(())
 }
 
-/// Adds what a term names, and what the terms in it name.
+/// Adds what a term mentions, an index before what it indexes.
 #[cycle(terms)]
 fn push_term(term: &Term, found: &mut Vec<u32>) -> Result<(), NoMemory>
-    ensures { OnOk result (found.new.items ≡ found.old.items ++ names_in (subterms (term_view term.now))) }
-{
-    push_name(term, found)?;
-    push_inner(term, found)
-}
-
-/// Adds what the terms in a term name.
-#[cycle(terms)]
-fn push_inner(term: &Term, found: &mut Vec<u32>) -> Result<(), NoMemory>
-    ensures { OnOk result (found.new.items ≡ found.old.items ++ names_in (inner_terms (term_view term.now))) }
+    ensures { OnOk result (found.new.items ≡ found.old.items ++ term_names (term_view term.now)) }
 {
     match &*term.form {
-        Form::Number(_) | Form::Signal(_) => Ok(()),
-        Form::Word { index, .. } => push_term(index, found),
-        Form::Bit { of, index } => push_two(of, index, found),
-        Form::Part { of, high, low } => push_three(of, high, low, found),
+        Form::Number(_) => Ok(()),
+        Form::Signal(signal) => push_name(*signal, found),
+        Form::Word { memory, index } => {
+            push_term(index, found)?;
+            push_name(*memory, found)
+        }
+        Form::Bit { of, index } => push_two(index, of, found),
+        Form::Part { of, high, low } => push_three(high, low, of, found),
         Form::Slide {
             of,
             base,
             width,
             ..
-        } => push_three(of, base, width, found),
+        } => push_three(base, width, of, found),
         Form::Unary(_, a) | Form::Sign(_, a) => push_term(a, found),
         Form::Binary(_, a, b) => push_two(a, b, found),
         Form::Choice { test, yes, no } => push_three(test, yes, no, found),
@@ -141,7 +160,7 @@ fn push_inner(term: &Term, found: &mut Vec<u32>) -> Result<(), NoMemory>
 /// Adds what two terms mention.
 #[cycle(terms)]
 fn push_two(a: &Term, b: &Term, found: &mut Vec<u32>) -> Result<(), NoMemory>
-    ensures { OnOk result (found.new.items ≡ found.old.items ++ names_in (subterms (term_view a.now) ++ subterms (term_view b.now))) }
+    ensures { OnOk result (found.new.items ≡ found.old.items ++ (term_names (term_view a.now) ++ term_names (term_view b.now))) }
 {
     push_term(a, found)?;
     push_term(b, found)
@@ -150,7 +169,7 @@ fn push_two(a: &Term, b: &Term, found: &mut Vec<u32>) -> Result<(), NoMemory>
 /// Adds what three terms mention.
 #[cycle(terms)]
 fn push_three(a: &Term, b: &Term, c: &Term, found: &mut Vec<u32>) -> Result<(), NoMemory>
-    ensures { OnOk result (found.new.items ≡ found.old.items ++ names_in (subterms (term_view a.now) ++ subterms (term_view b.now) ++ subterms (term_view c.now))) }
+    ensures { OnOk result (found.new.items ≡ found.old.items ++ (term_names (term_view a.now) ++ term_names (term_view b.now) ++ term_names (term_view c.now))) }
 {
     push_term(a, found)?;
     push_term(b, found)?;
@@ -160,7 +179,7 @@ fn push_three(a: &Term, b: &Term, c: &Term, found: &mut Vec<u32>) -> Result<(), 
 /// Adds what terms mention.
 #[cycle(terms)]
 fn push_terms(terms: &[Term], found: &mut Vec<u32>) -> Result<(), NoMemory>
-    ensures { OnOk result (found.new.items ≡ found.old.items ++ names_in (all_subterms (terms_of (map term_view terms.now)))) }
+    ensures { OnOk result (found.new.items ≡ found.old.items ++ all_term_names (terms_of (map term_view terms.now))) }
 {
     for term in terms {
         push_term(term, found)?;
@@ -168,14 +187,10 @@ fn push_terms(terms: &[Term], found: &mut Vec<u32>) -> Result<(), NoMemory>
     Ok(())
 }
 
-/// Adds the signal or memory that a term names itself.
-fn push_name(term: &Term, found: &mut Vec<u32>) -> Result<(), NoMemory>
-    ensures { OnOk result (found.new.items ≡ found.old.items ++ name_of (term_view term.now)) }
+/// Adds a signal or memory.
+fn push_name(thing: u32, found: &mut Vec<u32>) -> Result<(), NoMemory>
+    ensures { OnOk result (found.new.items ≡ found.old.items ++ thing ∷ []) }
 {
-    match &*term.form {
-        Form::Signal(signal) => found.push(*signal)?,
-        Form::Word { memory, .. } => found.push(*memory)?,
-        _ => {}
-    }
+    found.push(thing)?;
     Ok(())
 }

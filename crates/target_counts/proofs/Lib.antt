@@ -2,4 +2,3 @@ pub mod Counting
 pub mod Replacing
 pub mod Highest
 pub mod Clearing
-pub mod Arms

@@ -1,5 +1,5 @@
 -- What a body mentions is of the design.
-use Rattle.std.proofs.Common.{◌≡◌, ◌∙◌, ⊎_elim, ℕ, ◌+◌, ◌<◌, ◌==◌, ◌&&◌, ◌||◌, Bool, true, if◌then◌else◌, List, [], ◌∷◌, ◌++◌, length, max, refl, sym, ap, arith}
+use Rattle.std.proofs.Common.{◌≡◌, ◌∙◌, ⊎_elim, ℕ, ◌+◌, ◌<◌, ◌==◌, ◌&&◌, ◌||◌, Bool, true, if◌then◌else◌, List, [], ◌∷◌, length, max, sym, arith}
 use Rattle.std.specs.Prelude.{nat_le, nat_lt}
 use Rattle.std.specs.List.{list_all, list_any}
 use Rattle.std.proofs.lemmas.Bool.{and_parts, eqb-true, false≢true, ltb-true, or_cases}
@@ -11,7 +11,7 @@ use Rattle.design_model.specs.Mentions.{arms_mention, body_mentions, body_mentio
 use Rattle.design_model.specs.Shape.{all_signed_of, are_alone, are_bodies, are_shaped, are_targets, has_shape, is_alone, is_arms, is_body, is_shaped, is_target, is_wide_unary, own_sign, own_width, widest_of}
 use Rattle.design_model.specs.Tree.{Arms, Process, Stmt, Stmts, Target, Targets, Term, Terms, a_stmt, a_target, a_term, all_of, arm, assign, binary, bit, bits_of, block, branch, choice, clocked, comb, concat, empty, no_arms, no_stmts, no_targets, no_terms, number, part, repeat, select, set, several, sign, signal, slide, turns, unary, word, word_of}
 use Rattle.design_model.proofs.BitReads.{binary_shape, binary_shaped, if_cases}
-use Rattle.process_names.proofs.NamesLaw.{level_is, or_right_false}
+use Rattle.process_names.proofs.NamesLaw.{body_is, level_is}
 use Rattle.wake_bits.specs.Mentions.{mentioned_names}
 
 module _ (d : Design) (x : ℕ) where
@@ -140,15 +140,10 @@ module _ (d : Design) (x : ℕ) where
   level_below (comb i wakes s) shape all m = either (body_mentions x s) (list_any (λ z. z == x) wakes) (body_below s shape) (listed_below wakes all) m
   level_below (clocked i events s) shape all m = absurd (false≢true m)
 
-no_end : (xs : List ℕ) → xs ++ [] ≡ xs
-no_end [] = refl
-no_end (x ∷ xs) = ap (λ ys. x ∷ ys) (no_end xs)
-
 -- the names of a body are what it mentions
 pub mentioned_is : (p : Process) (x : ℕ) → (IsClocked p → ⊥) → list_any (λ y. y == x) (mentioned_names p) ≡ body_mentions x (body p)
 mentioned_is (assign i y t counted) x settles = level_is x (assign i y t counted)
-mentioned_is (comb i wakes s) x settles =
-    ap (list_any (λ y. y == x)) (sym (no_end (mentioned_names (comb i wakes s)))) ∙ level_is x (comb i [] s) ∙ or_right_false (body_mentions x s)
+mentioned_is (comb i wakes s) x settles = body_is x s
 mentioned_is (clocked i events s) x settles = absurd (settles tt)
 
 -- they are of the design

@@ -8,7 +8,7 @@ use cov_host::NoMemory;
 use design_model::Process;
 use process_names::push_level;
 
-/// Puts what the body of an Assign or Comb mentions on an empty list, in order of the text.
+/// Puts what the body of an Assign or Comb mentions on an empty list, in the order in which it is read.
 pub(crate) fn push_mentioned(process: &Process, found: &mut Vec<u32>) -> Result<(), NoMemory>
     requires { found.old.items ≡ [] }
     ensures { OnOk result (found.new.items ≡ mentioned_names (process_view process.now)) }

@@ -169,7 +169,22 @@ module m(input clk, input [1:0] i, input d, output reg q, output w);
 endmodule
 ----
 # What a block at an edge writes by blocking assignments has a row; it watches nothing. A memory has no places.
-rows: writes w=1, watches r=0 i=3; writes t=1, watches
+rows: writes w=1, watches i=3 r=0; writes t=1, watches
+====
+module m(input [1:0] i, input [1:0] j, input [3:0] v, input a, output w, output [1:0] x, output reg y);
+  reg [3:0] r [0:3];
+  assign w = r[i][j];
+  assign x = v[j +: 2];
+  always @*
+    case (1'b1)
+      a: y = 0;
+      default: y = v[i];
+      j[0]: y = 1;
+    endcase
+endmodule
+----
+# In order of reading: an index before what it indexes, that of a bit before the word, and all labels before the default.
+rows: writes w=1, watches j=3 i=3 r=0; writes x=3, watches j=3 v=15; writes y=1, watches a=1 j=3 i=3 v=15
 ";
 
 #[test]

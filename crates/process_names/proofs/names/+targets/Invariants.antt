@@ -1,14 +1,13 @@
 use Rattle.std.proofs.Common.{◌≡◌, ◌+◌, ◌*◌, ◌++◌, drop, map}
-use Rattle.design_model.specs.Mentions.{all_index_terms}
 use Rattle.design_model.specs.View.{target_view, targets_of}
 use Rattle.design_model.specs.declared.tree.Target.{size-Target}
-use Rattle.process_names.specs.Names.{names_in}
+use Rattle.process_names.specs.Names.{all_index_names}
 use Rattle.process_names.proofs.names.+targets.Given as goal
 
 -- the names so far, with those of the rest, are those of all targets
 abbrev pub invariant-push_targets-loop-target : goal.invariant-push_targets-loop-target
 invariant-push_targets-loop-target l =
-    l.found.items ++ names_in (all_index_terms (targets_of (map target_view (drop l.target-index l.targets)))) ≡ l.fn.found.items ++ names_in (all_index_terms (targets_of (map target_view l.fn.targets)))
+    l.found.items ++ all_index_names (targets_of (map target_view (drop l.target-index l.targets))) ≡ l.fn.found.items ++ all_index_names (targets_of (map target_view l.fn.targets))
 
 -- each call is of a part
 abbrev pub decreases-push_target : goal.decreases-push_target

@@ -1,5 +1,5 @@
 use Rattle.std.proofs.Common.{◌==◌, ◌∙◌, ap}
-use Rattle.target_counts.proofs.Arms.{default_is}
+use Rattle.process_names.proofs.Arms.{default_is}
 use Rattle.target_counts.proofs.walk.is_default.Goals as goal
 
 pub returns : goal.returns

@@ -1,4 +1,4 @@
--- The labels of an arm.
+-- The arm without labels.
 use Rattle.std.proofs.Common.{◌≡◌, ◌∙◌, ◌==◌, List, [], ◌∷◌, length, map, refl, ap, sym, arith}
 use Rattle.std.proofs.lemmas.Bool.{ne_eqb}
 use Rattle.design_model.specs.Execution.{is_default}
