@@ -3,7 +3,7 @@ use Rattle.std.proofs.Common.{◌≡◌, ◌∙◌, ◌+◌, ◌≤◌, ◌==◌
 use Rattle.std.specs.List.{AllByRecursion, last_or}
 use Rattle.std.proofs.lemmas.Bool.{eqb-true, false≢true, ne_eqb}
 use Rattle.command_line.specs.declared.score_option.ScoreOption.{ScoreOption}
-use Rattle.command_line.specs.declared.score_option.ScoreOption.TheVariants.{Top, Instance, Source, Define, Folder, Dump, Output, States, Late}
+use Rattle.command_line.specs.declared.score_option.ScoreOption.TheVariants.{Top, Instance, Source, Define, Folder, Dump, Output, States, Arcs, Late}
 use Rattle.command_line.specs.CommandWords.{GivenOption, spelled, value_words, values_in, is_absent, may_follow, at_most_one, AreGiven}
 use Rattle.command_line.specs.OptionValues.{values_among}
 use Rattle.command_line.specs.ScoreOption.{option_text, is_same, accepts, repeats, takes_value}
@@ -37,6 +37,7 @@ among-value option Folder value rest takes = refl
 among-value option Dump value rest takes = refl
 among-value option Output value rest takes = refl
 among-value option States value rest takes = refl
+among-value option Arcs value rest takes = refl
 among-value option Late value rest takes = absurd (false≢true takes)
 
 -- an option that takes a value is no flag
@@ -50,6 +51,7 @@ no_flag Folder takes = refl
 no_flag Dump takes = refl
 no_flag Output takes = refl
 no_flag States takes = refl
+no_flag Arcs takes = refl
 
 -- the values of an option that takes one, among the words of options, are those that it was given
 pub values_among-spelled : (given : List GivenOption) (option : ScoreOption) → takes_value option ≡ true → values_among option (spelled given) ≡ values_in given option

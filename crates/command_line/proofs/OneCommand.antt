@@ -6,15 +6,16 @@ use Rattle.command_line.specs.declared.report_metrics.ReportMetrics.{ReportMetri
 use Rattle.command_line.specs.Command.{AreWordsOf, CommandValues, score, merge, report, lcov}
 use Rattle.command_line.specs.CommandWords.{at_most_one, flag_values, AreValues, GivenOption, IsScore, ScoreValues}
 use Rattle.command_line.specs.Define.{Define}
+use Rattle.command_line.specs.DrawingWords.{DrawingNames}
 use Rattle.command_line.specs.MachineWords.{MachineNames}
 use Rattle.command_line.specs.DatabaseWords.{AreMergeValues, AreReportValues, IsMerge, IsReport, Item, MergeValues, ReportValues}
 use Rattle.command_line.specs.LcovWords.{AreLcovValues, IsLcov, LcovValues}
 use Rattle.command_line.proofs.Outcome.{outcome_of-score, outcome_of-merge, outcome_of-report, outcome_of-lcov}
 
 -- the values as one
-all_values : (top instance : List ℕ) (sources : List (List ℕ)) (defines : List Define) (folder : Option (List ℕ)) (dump output : List ℕ) (machines : List MachineNames) (late : Bool) → ScoreValues
-all_values top instance sources defines folder dump output machines late =
-    record { top = top; instance = instance; sources = sources; defines = defines; folder = folder; dump = dump; output = output; machines = machines; late = late }
+all_values : (top instance : List ℕ) (sources : List (List ℕ)) (defines : List Define) (folder : Option (List ℕ)) (dump output : List ℕ) (machines : List MachineNames) (drawings : List DrawingNames) (late : Bool) → ScoreValues
+all_values top instance sources defines folder dump output machines drawings late =
+    record { top = top; instance = instance; sources = sources; defines = defines; folder = folder; dump = dump; output = output; machines = machines; drawings = drawings; late = late }
 
 last_of_one : (value : Option (List ℕ)) → last_or None (at_most_one value) ≡ value
 last_of_one None = refl
@@ -32,7 +33,7 @@ unfolding all_values
 one_values given a b are_a are_b =
     let folder : a.folder ≡ b.folder = sym (last_of_one a.folder) ∙ ap (last_or None) (sym are_a.folder ∙ are_b.folder) ∙ last_of_one b.folder in
     let late : a.late ≡ b.late = one_flag a.late b.late (sym are_a.late ∙ are_b.late) in
-    let e : all_values a.top a.instance a.sources a.defines a.folder a.dump a.output a.machines a.late ≡ all_values b.top b.instance b.sources b.defines b.folder b.dump b.output b.machines b.late = cc in e
+    let e : all_values a.top a.instance a.sources a.defines a.folder a.dump a.output a.machines a.drawings a.late ≡ all_values b.top b.instance b.sources b.defines b.folder b.dump b.output b.machines b.drawings b.late = cc in e
 
 pub one_command : (words : List (List ℕ)) (a b : ScoreValues) → IsScore words a → IsScore words b → a ≡ b
 one_command words a b score_a score_b =

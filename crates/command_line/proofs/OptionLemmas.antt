@@ -2,7 +2,7 @@
 use Rattle.std.proofs.Common.{◌≡◌, ℕ, true, false, List, [], ◌∷◌, length, refl, sym, arith}
 use Rattle.std.proofs.lemmas.Bool.{eqb-true, false≢true}
 use Rattle.command_line.specs.declared.score_option.ScoreOption.{ScoreOption}
-use Rattle.command_line.specs.declared.score_option.ScoreOption.TheVariants.{Top, Instance, Source, Define, Folder, Dump, Output, States, Late}
+use Rattle.command_line.specs.declared.score_option.ScoreOption.TheVariants.{Top, Instance, Source, Define, Folder, Dump, Output, States, Arcs, Late}
 use Rattle.command_line.specs.ScoreOption.{accepts, is_same, takes_value}
 
 -- options that are written alike are one
@@ -15,6 +15,7 @@ same_option Folder Folder h = refl
 same_option Dump Dump h = refl
 same_option Output Output h = refl
 same_option States States h = refl
+same_option Arcs Arcs h = refl
 same_option Late Late h = refl
 same_option a b h = absurd (false≢true h)
 
@@ -28,6 +29,7 @@ is_same-self Folder = refl
 is_same-self Dump = refl
 is_same-self Output = refl
 is_same-self States = refl
+is_same-self Arcs = refl
 is_same-self Late = refl
 
 -- one option alone takes no value

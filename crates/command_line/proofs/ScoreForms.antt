@@ -6,9 +6,10 @@ use Rattle.std.proofs.lemmas.Bool.{false≢true}
 use Rattle.std.proofs.lemmas.List.Elements.{All-from_recursion, All-map, All-weaker}
 use Rattle.cov_host.specs.Identifier.{is_identifier}
 use Rattle.command_line.specs.declared.score_option.ScoreOption.{ScoreOption}
-use Rattle.command_line.specs.declared.score_option.ScoreOption.TheVariants.{Top, Instance, Source, Define, Folder, Dump, Output, States}
-use Rattle.command_line.specs.CommandWords.{at_most_one, values_in, AreIdentifiers, HaveForms, IsScore, ScoreValues}
+use Rattle.command_line.specs.declared.score_option.ScoreOption.TheVariants.{Top, Instance, Source, Define, Folder, Dump, Output, States, Arcs}
+use Rattle.command_line.specs.CommandWords.{at_most_one, values_in, AreDrawingIdentifiers, AreIdentifiers, HaveForms, IsScore, ScoreValues}
 use Rattle.command_line.specs.Define.{define_of, Define as Defined}
+use Rattle.command_line.specs.DrawingWords.{current_of, drawing_of, is_drawing}
 use Rattle.command_line.specs.MachineWords.{are_counted, is_machine, machine_of, module_of, names_in, names_text, variable_of}
 use Rattle.command_line.specs.ScoreOption.{accepts}
 use Rattle.command_line.specs.ValueForm.{is_file_name}
@@ -34,6 +35,12 @@ identifiers value form =
     let third = both_so (are_counted (names_in (names_text value))) _ second.1 in
     record { of_module = first.0; variable = second.0; names = All-from_recursion (λ name. IsTrue (is_identifier name)) (names_in (names_text value)) (each_passes is_identifier (names_in (names_text value)) third.1) }
 
+drawing_identifiers : (value : List ℕ) → IsTrue (is_drawing value) → AreDrawingIdentifiers (drawing_of value)
+drawing_identifiers value form =
+    let first = both_so (is_identifier (module_of value)) _ form in
+    let second = both_so (is_identifier (current_of value)) _ first.1 in
+    record { of_module = first.0; current = second.0; next = second.1 }
+
 pub score_forms : (words : List (List ℕ)) (values : ScoreValues) → IsScore words values → HaveForms values
 score_forms words values is =
     let forms = λ (option : ScoreOption). values_accepted is.0 option is.1.are_given.forms in
@@ -41,6 +48,7 @@ score_forms words values is =
     let sources = All-from_recursion (λ name. IsTrue (is_file_name name)) (values_in is.0 Source) (forms Source) in
     let names = All-from_recursion (λ value. IsTrue (accepts Define value)) (values_in is.0 Define) (forms Define) in
     let machines = All-from_recursion (λ value. IsTrue (accepts States value)) (values_in is.0 States) (forms States) in
+    let drawings = All-from_recursion (λ value. IsTrue (accepts Arcs value)) (values_in is.0 Arcs) (forms Arcs) in
     let HasName : Defined → Type 0 = λ define. IsTrue (is_identifier define.name) in
     record {
       top = form Top values.top is.2.top;
@@ -52,4 +60,5 @@ score_forms words values is =
       dump = form Dump values.dump is.2.dump;
       output = form Output values.output is.2.output;
       machines = subst (All AreIdentifiers) is.2.machines (All-map AreIdentifiers machine_of (values_in is.0 States) (All-weaker (λ value. IsTrue (is_machine value)) (λ value. AreIdentifiers (machine_of value)) identifiers (values_in is.0 States) machines));
+      drawings = subst (All AreDrawingIdentifiers) is.2.drawings (All-map AreDrawingIdentifiers drawing_of (values_in is.0 Arcs) (All-weaker (λ value. IsTrue (is_drawing value)) (λ value. AreDrawingIdentifiers (drawing_of value)) drawing_identifiers (values_in is.0 Arcs) drawings));
     }

@@ -6,7 +6,7 @@ use Rattle.std.proofs.lemmas.Bool.{false_from_ne_true}
 use Rattle.std.proofs.lemmas.List.{append-nil}
 use Rattle.std.proofs.lemmas.Slice.Eq.{bytes_eq-Decides}
 use Rattle.command_line.specs.declared.score_option.ScoreOption.{ScoreOption}
-use Rattle.command_line.specs.declared.score_option.ScoreOption.TheVariants.{Top, Instance, Source, Define, Folder, Dump, Output, States, Late}
+use Rattle.command_line.specs.declared.score_option.ScoreOption.TheVariants.{Top, Instance, Source, Define, Folder, Dump, Output, States, Arcs, Late}
 use Rattle.command_line.specs.declared.usage_fault.UsageFault.{UsageFault}
 use Rattle.command_line.specs.declared.usage_fault.UsageFault.TheVariants.{NoCommand, UnknownCommand, UnknownWord, GivenTwice, NeedsValue, BadValue, Missing}
 use Rattle.command_line.specs.ScoreOption.{option_text, accepts, takes_value}
@@ -20,7 +20,7 @@ abbrev pub Outcome : Type 0
 Outcome = Result (List GivenOption) (List ℕ)
 
 abbrev pub options : List ScoreOption
-options = Top ∷ Instance ∷ Source ∷ Define ∷ Folder ∷ Dump ∷ Output ∷ States ∷ Late ∷ []
+options = Top ∷ Instance ∷ Source ∷ Define ∷ Folder ∷ Dump ∷ Output ∷ States ∷ Arcs ∷ Late ∷ []
 
 -- the option that a word is
 pub named : List ℕ → Option ScoreOption
@@ -59,6 +59,7 @@ named_text Folder = refl
 named_text Dump = refl
 named_text Output = refl
 named_text States = refl
+named_text Arcs = refl
 named_text Late = refl
 
 named_word : (word : List ℕ) (option : ScoreOption) → word ≡ option_text option → named word ≡ Some option
@@ -68,7 +69,7 @@ named_none : (word : List ℕ) → IsNoOption word → named word ≡ None
 unfolding named
 named_none word h =
     let other = λ (option : ScoreOption). false_from_ne_true (bytes_eq word (option_text option)) (λ e. h option ((bytes_eq-Decides word (option_text option)).0 e)) in
-    rw (other Top, other Instance, other Source, other Define, other Folder, other Dump, other Output, other States, other Late)
+    rw (other Top, other Instance, other Source, other Define, other Folder, other Dump, other Output, other States, other Arcs, other Late)
 
 -- an option that takes no value is read by itself
 outcome-flag : (given : List GivenOption) (option : ScoreOption) (rest : List (List ℕ)) → may_follow given option ≡ true → takes_value option ≡ false → outcome given (option_text option ∷ rest) ≡ outcome (given ++ flag option ∷ []) rest

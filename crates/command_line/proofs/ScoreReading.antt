@@ -3,11 +3,12 @@ use Rattle.std.proofs.Common.{◌≡◌, ◌∙◌, ◌||◌, ℕ, Bool, false, 
 use Rattle.std.specs.List.{AllByRecursion, last_or}
 use Rattle.std.proofs.lemmas.Bool.{false≢true}
 use Rattle.command_line.specs.declared.score_option.ScoreOption.{ScoreOption}
-use Rattle.command_line.specs.declared.score_option.ScoreOption.TheVariants.{Top, Instance, Source, Define, Folder, Dump, Output, States, Late}
+use Rattle.command_line.specs.declared.score_option.ScoreOption.TheVariants.{Top, Instance, Source, Define, Folder, Dump, Output, States, Arcs, Late}
 use Rattle.command_line.specs.declared.given_values.GivenValues.{GivenValues}
 use Rattle.command_line.specs.declared.score_words.ScoreWords.{ScoreWords}
 use Rattle.command_line.specs.CommandWords.{GivenOption, spelled, value_words, values_in, is_absent, may_follow, at_most_one, flag_values, score_values, IsScore, IsScoreUpTo}
 use Rattle.command_line.specs.Define.{define_of}
+use Rattle.command_line.specs.DrawingWords.{drawing_of}
 use Rattle.command_line.specs.MachineWords.{machine_of}
 use Rattle.command_line.specs.GivenValues.{all_words, has_room, value_of, GivesScore}
 use Rattle.command_line.specs.OptionValues.{sources_of, values_among}
@@ -130,6 +131,7 @@ module _ (words left : List (List ℕ)) (values : GivenValues) (read : HasRead w
           dump = one_read Dump refl ∙ ap at_most_one gives.dump;
           output = one_read Output refl ∙ ap at_most_one gives.output;
           machines = ap (map machine_of) (sym (values_read States refl)) ∙ sym gives.machines;
+          drawings = ap (map drawing_of) (sym (values_read Arcs refl)) ∙ sym gives.drawings;
           late = late_read (value_of values Late) refl ∙ ap flag_values (sym gives.late);
         },
       )

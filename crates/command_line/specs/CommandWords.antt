@@ -7,8 +7,9 @@ use Rattle.command_line.specs.declared.score_option.ScoreOption.{ScoreOption}
 use Rattle.command_line.specs.declared.score_option.ScoreOption.TheVariants as option
 use Rattle.command_line.specs.declared.score_words.ScoreWords.{ScoreWords}
 use Rattle.command_line.specs.Define.{Define, define_of}
+use Rattle.command_line.specs.DrawingWords.{DrawingNames, drawing_of}
 use Rattle.command_line.specs.MachineWords.{MachineNames, machine_of}
-use Rattle.command_line.specs.OptionValues.{defines_of, machines_of, sources_of}
+use Rattle.command_line.specs.OptionValues.{defines_of, drawings_of, machines_of, sources_of}
 use Rattle.command_line.specs.ScoreOption.{option_text, is_same, accepts, repeats, takes_value}
 use Rattle.command_line.specs.ValueForm.{is_file_name, is_instance_path}
 
@@ -59,6 +60,7 @@ pub record ScoreValues : Type 0 where
   pub dump : List ℕ
   pub output : List ℕ
   pub machines : List MachineNames  -- the state machines that are named
+  pub drawings : List DrawingNames  -- the signals whose case statements draw state machines
   pub late : Bool  -- whether inputs move late
 
 -- an optional value as a list
@@ -71,7 +73,7 @@ abbrev pub flag_values : Bool → List (List ℕ)
 flag_values true = [] ∷ []
 flag_values false = []
 
--- sources, defines and machines in order, the folder and the habit at most once, and each other option once
+-- sources, defines, machines and drawings in order, the folder and the habit at most once, and each other option once
 pub record AreValues (given : List GivenOption) (values : ScoreValues) : Type 0 where
   pub top : values_in given option.Top ≡ values.top ∷ []
   pub instance : values_in given option.Instance ≡ values.instance ∷ []
@@ -82,6 +84,7 @@ pub record AreValues (given : List GivenOption) (values : ScoreValues) : Type 0 
   pub dump : values_in given option.Dump ≡ values.dump ∷ []
   pub output : values_in given option.Output ≡ values.output ∷ []
   pub machines : map machine_of (values_in given option.States) ≡ values.machines
+  pub drawings : map drawing_of (values_in given option.Arcs) ≡ values.drawings
   pub late : values_in given option.Late ≡ flag_values values.late
 
 -- the names of a machine are identifiers
@@ -89,6 +92,12 @@ pub record AreIdentifiers (m : MachineNames) : Type 0 where
   pub of_module : IsTrue (is_identifier m.of_module)
   pub variable : IsTrue (is_identifier m.variable)
   pub names : All (λ name. IsTrue (is_identifier name)) m.names
+
+-- the names of two signals are identifiers
+pub record AreDrawingIdentifiers (m : DrawingNames) : Type 0 where
+  pub of_module : IsTrue (is_identifier m.of_module)
+  pub current : IsTrue (is_identifier m.current)
+  pub next : IsTrue (is_identifier m.next)
 
 -- each value has its form, and there is a source
 pub record HaveForms (values : ScoreValues) : Type 0 where
@@ -101,6 +110,7 @@ pub record HaveForms (values : ScoreValues) : Type 0 where
   pub dump : IsTrue (is_file_name values.dump)
   pub output : IsTrue (is_file_name values.output)
   pub machines : All AreIdentifiers values.machines
+  pub drawings : All AreDrawingIdentifiers values.drawings
 
 -- the words are `score` and options with their values, in any order
 abbrev pub IsScore : List (List ℕ) → ScoreValues → Type 0
@@ -117,5 +127,6 @@ score_values score = record {
   dump = score.dump.now;
   output = score.output.now;
   machines = machines_of score.machines;
+  drawings = drawings_of score.drawings;
   late = score.late;
 }

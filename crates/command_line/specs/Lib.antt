@@ -1,6 +1,7 @@
 pub mod ValueForm
 pub mod Define
 pub mod MachineWords
+pub mod DrawingWords
 pub mod OptionValues
 pub mod ScoreOption
 pub mod CommandWords

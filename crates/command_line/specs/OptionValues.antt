@@ -2,12 +2,14 @@
 use Rattle.std.specs.Prelude.{ℕ, Bool, if◌then◌else◌, List, [], ◌∷◌, map}
 use Rattle.std.specs.Str.{bytes_eq}
 use Rattle.command_line.specs.declared.given_defines.GivenDefines.{GivenDefines}
+use Rattle.command_line.specs.declared.given_drawings.GivenDrawings.{GivenDrawings}
 use Rattle.command_line.specs.declared.given_machines.GivenMachines.{GivenMachines}
 use Rattle.command_line.specs.declared.option_values.OptionValues.{OptionValues}
 use Rattle.command_line.specs.declared.score_option.ScoreOption.{ScoreOption}
 use Rattle.command_line.specs.declared.score_option.ScoreOption.TheVariants.{Late}
 use Rattle.command_line.specs.declared.source_files.SourceFiles.{SourceFiles}
 use Rattle.command_line.specs.Define.{Define, define_of}
+use Rattle.command_line.specs.DrawingWords.{DrawingNames, drawing_of}
 use Rattle.command_line.specs.MachineWords.{MachineNames, machine_of}
 use Rattle.command_line.specs.ScoreOption.{option_text}
 use Rattle.command_line.specs.WordsLeft.{left_words}
@@ -41,3 +43,7 @@ defines_of defines = map define_of (values_left defines.values)
 -- the machines that are left
 abbrev pub machines_of : GivenMachines → List MachineNames
 machines_of machines = map machine_of (values_left machines.values)
+
+-- the machines to be drawn that are left
+abbrev pub drawings_of : GivenDrawings → List DrawingNames
+drawings_of drawings = map drawing_of (values_left drawings.values)

@@ -3,8 +3,9 @@ use Rattle.std.specs.Prelude.{ℕ, Bool, true, false, ◌==◌, List, [], ◌∷
 use Rattle.std.specs.Str.{bytes_eq}
 use Rattle.cov_host.specs.Identifier.{is_identifier}
 use Rattle.command_line.specs.declared.score_option.ScoreOption.{ScoreOption}
-use Rattle.command_line.specs.declared.score_option.ScoreOption.TheVariants.{Top, Instance, Source, Define, Folder, Dump, Output, States, Late}
+use Rattle.command_line.specs.declared.score_option.ScoreOption.TheVariants.{Top, Instance, Source, Define, Folder, Dump, Output, States, Arcs, Late}
 use Rattle.command_line.specs.Define.{name_of}
+use Rattle.command_line.specs.DrawingWords.{is_drawing}
 use Rattle.command_line.specs.MachineWords.{is_machine}
 use Rattle.command_line.specs.ValueForm.{is_instance_path, is_file_name}
 
@@ -17,6 +18,7 @@ abbrev pub repeats : ScoreOption → Bool
 repeats Source = true
 repeats Define = true
 repeats States = true
+repeats Arcs = true
 repeats option = false
 
 -- the option as it is written
@@ -29,6 +31,7 @@ option_text Folder = codes "-I"
 option_text Dump = codes "-vcd"
 option_text Output = codes "-o"
 option_text States = codes "-states"
+option_text Arcs = codes "-F"
 option_text Late = codes "-late"
 
 -- options are the same where they are written alike
@@ -50,4 +53,5 @@ accepts Folder value = is_file_name value
 accepts Dump value = is_file_name value
 accepts Output value = is_file_name value
 accepts States value = is_machine value
+accepts Arcs value = is_drawing value
 accepts Late value = length value == 0

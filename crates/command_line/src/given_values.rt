@@ -7,7 +7,7 @@ ghost use Rattle.command_line.specs.GivenValues.{all_words, has_room, value_of, 
 ghost use Rattle.command_line.specs.WordsLeft.{left_words};
 
 use crate::words_left::WordsLeft;
-use crate::{GivenDefines, GivenMachines, ScoreOption, ScoreWords, SourceFiles};
+use crate::{GivenDefines, GivenDrawings, GivenMachines, ScoreOption, ScoreWords, SourceFiles};
 
 /// The values of the options that were read so far, of one that repeats the last.
 #[derive(Clone, Copy)]
@@ -21,6 +21,7 @@ pub(crate) struct GivenValues<'a> {
     dump: Option<&'a str>,
     output: Option<&'a str>,
     machine: Option<&'a str>,
+    drawing: Option<&'a str>,
     late: Option<&'a str>,
 }
 
@@ -40,6 +41,7 @@ impl<'a> GivenValues<'a> {
             dump: None,
             output: None,
             machine: None,
+            drawing: None,
             late: None,
         }
     }
@@ -57,6 +59,7 @@ impl<'a> GivenValues<'a> {
             ScoreOption::Dump => self.dump,
             ScoreOption::Output => self.output,
             ScoreOption::States => self.machine,
+            ScoreOption::Arcs => self.drawing,
             ScoreOption::Late => self.late,
         }
     }
@@ -95,6 +98,7 @@ impl<'a> GivenValues<'a> {
             dump,
             output,
             machines: GivenMachines::new(self.words),
+            drawings: GivenDrawings::new(self.words),
             late: self.late.is_some(),
         })
     }
@@ -113,6 +117,7 @@ impl<'a> GivenValues<'a> {
             ScoreOption::Dump => self.dump = Some(value),
             ScoreOption::Output => self.output = Some(value),
             ScoreOption::States => self.machine = Some(value),
+            ScoreOption::Arcs => self.drawing = Some(value),
             ScoreOption::Late => self.late = Some(value),
         }
     }

@@ -14,6 +14,8 @@ mod database_option;
 mod database_words;
 mod given_define;
 mod given_defines;
+mod given_drawing;
+mod given_drawings;
 mod given_machine;
 mod given_machines;
 mod given_values;
@@ -39,6 +41,8 @@ pub use database_files::DatabaseFiles;
 pub use database_option::DatabaseOption;
 pub use given_define::GivenDefine;
 pub use given_defines::GivenDefines;
+pub use given_drawing::GivenDrawing;
+pub use given_drawings::GivenDrawings;
 pub use given_machine::GivenMachine;
 pub use given_machines::GivenMachines;
 pub use laws::{

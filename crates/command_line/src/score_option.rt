@@ -1,6 +1,7 @@
 ghost use Rattle.std.specs.Prelude.{◌≡◌, ◌≢◌, IfSome, IfNone};
 ghost use Rattle.command_line.specs.ScoreOption.{option_text, accepts, repeats, takes_value};
 
+use crate::given_drawing::is_drawing;
 use crate::given_machine::is_machine;
 use crate::{GivenDefine, is_file_name, is_instance_path, is_module_name};
 
@@ -23,6 +24,8 @@ pub enum ScoreOption {
     Output,
     /// A variable of a module with the parameters that are its states. It may be repeated.
     States,
+    /// Two signals of a module from whose case statements a state machine is drawn. It may be repeated.
+    Arcs,
     /// The inputs move late. It takes no value.
     Late,
 }
@@ -42,6 +45,7 @@ impl ScoreOption {
             "-vcd" => Some(ScoreOption::Dump),
             "-o" => Some(ScoreOption::Output),
             "-states" => Some(ScoreOption::States),
+            "-F" => Some(ScoreOption::Arcs),
             "-late" => Some(ScoreOption::Late),
             _ => None,
         }
@@ -60,6 +64,7 @@ impl ScoreOption {
             ScoreOption::Dump => "-vcd",
             ScoreOption::Output => "-o",
             ScoreOption::States => "-states",
+            ScoreOption::Arcs => "-F",
             ScoreOption::Late => "-late",
         }
     }
@@ -70,7 +75,7 @@ impl ScoreOption {
     {
         matches!(
             self,
-            ScoreOption::Source | ScoreOption::Define | ScoreOption::States
+            ScoreOption::Source | ScoreOption::Define | ScoreOption::States | ScoreOption::Arcs
         )
     }
 
@@ -93,6 +98,7 @@ impl ScoreOption {
                 is_file_name(value)
             }
             ScoreOption::States => is_machine(value),
+            ScoreOption::Arcs => is_drawing(value),
             ScoreOption::Late => value.is_empty(),
         }
     }

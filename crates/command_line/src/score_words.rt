@@ -1,4 +1,4 @@
-use crate::{GivenDefines, GivenMachines, SourceFiles};
+use crate::{GivenDefines, GivenDrawings, GivenMachines, SourceFiles};
 
 /// The values of a `score` command.
 #[derive(Clone, Copy)]
@@ -19,6 +19,8 @@ pub struct ScoreWords<'a> {
     pub output: &'a str,
     /// The state machines that are named, in the order of the words.
     pub machines: GivenMachines<'a>,
+    /// The state machines that are drawn from case statements, in the order of the words.
+    pub drawings: GivenDrawings<'a>,
     /// Whether the inputs move late.
     pub late: bool,
 }

@@ -22,7 +22,7 @@ use Rattle.cover_points.specs.declared.machine_point.MachinePoint.{MachinePoint}
 use Rattle.cover_points.specs.declared.machine_point.MachinePoint.TheVariants.{Arc, State}
 use Rattle.design_machines.specs.Machines.{machine_at}
 use Rattle.design_machines.specs.declared.machine.Machine.{Machine}
-use Rattle.design_model.specs.Points.{StateNames}
+use Rattle.design_machines.specs.state_machines.Machines.{StateMachines}
 use Rattle.design_model.specs.declared.design.Instance.{Instance}
 use Rattle.std.specs.Ordering.{nat_cmp, ordering_then}
 use Rattle.cover_points.specs.declared.listing.Points.{Points}
@@ -81,7 +81,7 @@ same_word x y v a b =
     let both = one_word x.second y.second x.thing x.index y.thing y.index (inner (sym (word_visit_is x) ∙ a ∙ sym b ∙ word_visit_is y)) in
     same_index x y both.0 both.1 both.2
 
-module _ (d : Design) (ms : List StateNames) (ps : Points) (h : IsPointList d ms ps) (v : Visit) where
+module _ (d : Design) (ms : StateMachines) (ps : Points) (h : IsPointList d ms ps) (v : Visit) where
   one_line : (j k : ℕ) → j < length ps.lines.items → k < length ps.lines.items → visit_of (point_at ps j) ≡ Some v → visit_of (point_at ps k) ≡ Some v → j ≡ k
   one_line j k l m a b =
       let x = get_or ps.lines.items j no_line in
@@ -139,7 +139,7 @@ module _ (d : Design) (ms : List StateNames) (ps : Points) (h : IsPointList d ms
   one_point j k (in_words i e l) (in_nodes n f m) same a b = absurd (omega (arith, same))
   one_point j k (in_words i e l) (in_toggles n f m) same a b = absurd (omega (arith, same))
 
-pub points_apart : (d : Design) (ms : List StateNames) (ps : Points) → IsPointList d ms ps → AreApart ps
+pub points_apart : (d : Design) (ms : StateMachines) (ps : Points) → IsPointList d ms ps → AreApart ps
 points_apart d ms ps h j k v a b =
     let p = where_is ps j a.0 in
     let q = where_is ps k b.0 in
@@ -173,7 +173,7 @@ tied_states is xs (State k s) (Arc l m n) e = absurd (cc)
 tied_states is xs (Arc k i j) (State l t) e = absurd (cc)
 
 -- no point is listed twice
-pub points_once : (d : Design) (ms : List StateNames) (ps : Points) → IsPointList d ms ps → AreOnce ps
+pub points_once : (d : Design) (ms : StateMachines) (ps : Points) → IsPointList d ms ps → AreOnce ps
 points_once d ms ps h j k l m e = by_kind (visit_or_state ps j (where_is ps j l)) (visit_or_state ps k (where_is ps k m))
   where
     seen_once : (i n : ℕ) (v : Visit) → i < length (points_of ps) → n < length (points_of ps) → visit_of (point_at ps i) ≡ Some v → point_at ps i ≡ point_at ps n → i ≡ n

@@ -4,7 +4,9 @@ use Rattle.std.proofs.lemmas.List.{length-map}
 use Rattle.cov_host.specs.declared.place.Place.{Place}
 use Rattle.design_model.specs.Design.{Design, In}
 use Rattle.design_machines.specs.declared.machine.Machine.{Machine}
-use Rattle.design_model.specs.Points.{IsPoint, StateNames}
+use Rattle.design_model.specs.Points.{IsPoint}
+use Rattle.design_machines.specs.state_machines.Drawn.{IsPointWith}
+use Rattle.design_machines.specs.state_machines.Machines.{StateMachines}
 use Rattle.design_model.specs.point_words.declared.line_word.LineWord.{LineWord}
 use Rattle.design_model.specs.point_words.declared.node_case.NodeCase.{NodeCase}
 use Rattle.design_model.specs.declared.point.Point.{Point}
@@ -65,11 +67,11 @@ module _ (ls : List LinePoint) (ns : List NodePoint) (ts : List IndexPoint) (xs 
   kinds : (x : Point) → In x whole → Parts x
   kinds x h = of_five x (in_append x (map line_view ls ++ map node_view ns ++ map toggle_view ts ++ map (machine_view xs) ps) (map word_view ws) h)
 
-  module _ (d : Design) (ms : List StateNames)
+  module _ (d : Design) (ms : StateMachines)
       (on_lines : (p n : ℕ) (place : Place) (w : LineWord) → In (Line p n place w) (map line_view ls) ↔ IsPoint d [] (Line p n place w))
       (on_nodes : (p n : ℕ) (place : Place) (op : List ℕ) (c : NodeCase) → In (Logic p n place op c) (map node_view ns) ↔ IsPoint d [] (Logic p n place op c))
       (on_toggles : (s i : ℕ) (rise : Bool) → In (Toggle s i rise) (map toggle_view ts) ↔ IsPoint d [] (Toggle s i rise))
-      (on_machines : (x : Point) → IsOfMachine x → In x (map (machine_view xs) ps) ↔ IsPoint d ms x)
+      (on_machines : (x : Point) → IsOfMachine x → In x (map (machine_view xs) ps) ↔ IsPointWith d ms x)
       (on_words : (m i : ℕ) (write : Bool) → In (Word m i write) (map word_view ws) ↔ IsPoint d [] (Word m i write)) where
     of_line : (x : Point) → kind x ≡ 0 → In x whole → In x (map line_view ls)
     of_line x e h = elim (kinds x h) [
@@ -125,10 +127,10 @@ module _ (ls : List LinePoint) (ns : List NodePoint) (ts : List IndexPoint) (xs 
     in_two : (x : Point) → In x (map line_view ls ++ map node_view ns) → In x whole
     in_two x h = in_three x (in_left x (map line_view ls ++ map node_view ns) (map toggle_view ts) h)
 
-    machine_members : (x : Point) → IsOfMachine x → kind x ≡ 3 → In x whole ↔ IsPoint d ms x
+    machine_members : (x : Point) → IsOfMachine x → kind x ≡ 3 → In x whole ↔ IsPointWith d ms x
     machine_members x o e = (λ h. (on_machines x o).0 (of_machine x e h), λ h. in_four x (in_right x (map line_view ls ++ map node_view ns ++ map toggle_view ts) (map (machine_view xs) ps) ((on_machines x o).1 h)))
 
-    pub all_members : (x : Point) → In x whole ↔ IsPoint d ms x
+    pub all_members : (x : Point) → In x whole ↔ IsPointWith d ms x
     all_members (Line p n place w) = (λ h. (on_lines p n place w).0 (of_line (Line p n place w) refl h), λ h. in_two (Line p n place w) (in_left (Line p n place w) (map line_view ls) (map node_view ns) ((on_lines p n place w).1 h)))
     all_members (Logic p n place op c) = (λ h. (on_nodes p n place op c).0 (of_node (Logic p n place op c) refl h), λ h. in_two (Logic p n place op c) (in_right (Logic p n place op c) (map line_view ls) (map node_view ns) ((on_nodes p n place op c).1 h)))
     all_members (Toggle s i rise) = (λ h. (on_toggles s i rise).0 (of_toggle (Toggle s i rise) refl h), λ h. in_three (Toggle s i rise) (in_right (Toggle s i rise) (map line_view ls ++ map node_view ns) (map toggle_view ts) ((on_toggles s i rise).1 h)))

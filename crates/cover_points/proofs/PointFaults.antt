@@ -1,18 +1,18 @@
 -- Faults of the list of points.
-use Rattle.std.proofs.Common.{◌≡◌, ◌⊎◌, ◌≤◌, ◌<◌, ◌∙◌, ℕ, inl, inr, List, Result, Err, length, get_or, sym, ap, arith}
+use Rattle.std.proofs.Common.{◌≡◌, ◌⊎◌, ◌≤◌, ◌<◌, ◌∙◌, ℕ, inl, inr, List, Result, Err, length, get_or, sym}
 use Rattle.design_machines.specs.Faults.{IsStateFault}
-use Rattle.design_machines.specs.Machines.{AreMachines}
+use Rattle.design_machines.specs.Drawn.{AreAllMachines}
 use Rattle.design_machines.specs.declared.fault.StateFault.{StateFault}
 use Rattle.design_machines.specs.declared.fault.StateFault.TheVariants.{NoMemory, NoState, SameState, TooManyStates}
 use Rattle.design_machines.specs.declared.machine.Machine.{Machine}
 use Rattle.design_model.specs.Design.{Design}
-use Rattle.design_model.specs.Points.{StateNames}
+use Rattle.design_machines.specs.state_machines.Machines.{StateMachines}
 use Rattle.cover_points.specs.Faults.{IsPointFault, point_fault}
 use Rattle.cover_points.specs.declared.fault.PointFault.{PointFault}
 use Rattle.cover_points.proofs.Members.{in_at}
 
 -- a fault of machines is one of points
-pub of_machines : (d : Design) (ms : List StateNames) (f : StateFault) → (f ≡ NoMemory) ⊎ IsStateFault d ms f → IsPointFault d ms (point_fault f)
+pub of_machines : (d : Design) (ms : StateMachines) (f : StateFault) → (f ≡ NoMemory) ⊎ IsStateFault d ms.named f → IsPointFault d ms (point_fault f)
 of_machines d ms NoMemory h = tt
 of_machines d ms (NoState name) (inl e) = absurd (cc)
 of_machines d ms (NoState name) (inr h) = h
@@ -29,7 +29,6 @@ handed_on r x y f a b e =
     sym b ∙ same
 
 -- each machine has at most 64 states
-pub counted : (d : Design) (ms : List StateNames) (xs : List Machine) → AreMachines d ms xs → (k : ℕ) (y : Machine) → k < length xs → length (get_or xs k y).names ≤ 64
+pub counted : (d : Design) (ms : StateMachines) (xs : List Machine) → AreAllMachines d ms xs → (k : ℕ) (y : Machine) → k < length xs → length (get_or xs k y).names ≤ 64
 counted d ms xs h k y l =
-    let n = h.each (get_or xs k y) (in_at xs k y l) in
-    omega (arith, (h.counted n.0 n.1).1, ap length n.2.names)
+    (h.whole (get_or xs k y) (in_at xs k y l)).most

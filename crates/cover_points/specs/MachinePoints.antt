@@ -26,13 +26,13 @@ arc_to k i j = if i == j then [] else Arc k i j ∷ []
 abbrev pub arcs_from : ℕ → ℕ → ℕ → List MachinePoint
 arcs_from k n i = flat_map (arc_to k i) (range_with_len 0 n)
 
--- the arcs of machine k
-abbrev pub arcs_of : ℕ → ℕ → List MachinePoint
-arcs_of k n = flat_map (arcs_from k n) (range_with_len 0 n)
+-- the arcs of machine k that leave its first states, so many, and lead to one of n states
+abbrev pub arcs_of : ℕ → ℕ → ℕ → List MachinePoint
+arcs_of k leaving n = flat_map (arcs_from k n) (range_with_len 0 leaving)
 
 -- the states and arcs of machine k
 abbrev pub points_of_machine : ℕ → Machine → List MachinePoint
-points_of_machine k x = states_of k (length x.names) ++ arcs_of k (length x.names)
+points_of_machine k x = states_of k (length x.names) ++ arcs_of k x.leaving (length x.names)
 
 -- the name and the value of a state of a machine
 abbrev pub state_name : List Machine → ℕ → ℕ → List ℕ

@@ -1,7 +1,8 @@
 ghost use Rattle.std.specs.Prelude.{◌≡◌, ◌↔◌, ◌<◌, ◌≤◌, Err, List, IfOk, IsSome, length};
-ghost use Rattle.design_machines.specs.Machines.{AreMachines};
+ghost use Rattle.design_machines.specs.Drawn.{AreAllMachines};
+ghost use Rattle.design_machines.specs.state_machines.Drawn.{AreDrawable};
+ghost use Rattle.design_machines.specs.state_machines.Machines.{StateMachines};
 ghost use Rattle.design_model.specs.Lawful.{IsLawfulDesign};
-ghost use Rattle.design_model.specs.Points.{StateNames};
 ghost use Rattle.design_model.specs.View.{design_view};
 ghost use Rattle.cover_points.specs.Faults.{IsPointFault};
 ghost use Rattle.cover_points.specs.Listed.{IsPointList, points_of};
@@ -13,7 +14,7 @@ use crate::{
     word_points,
 };
 use cov_host::NoMemory;
-use design_machines::{Machine, States, design_machines};
+use design_machines::{Machine, States, all_machines};
 use design_model::Design;
 use std::alloc::Global;
 use text_points::{LinePoint, NodePoint};
@@ -53,7 +54,8 @@ impl Drop for Points {
 
 /// The points of a design with these state machines, each once, in their order.
 pub fn list(alloc: Global, design: &Design, states: &States) -> Result<Points, PointFault>
-    requires { IsLawfulDesign (design_view design.now) }
+    requires lawful { IsLawfulDesign (design_view design.now) }
+    requires drawable { AreDrawable (design_view design.now) states.now }
     ensures points { IfOk result (IsPointList (design_view design.now) states.now) }
     ensures apart { IfOk result AreApart }
     ensures once { IfOk result AreOnce }
@@ -61,7 +63,7 @@ pub fn list(alloc: Global, design: &Design, states: &States) -> Result<Points, P
     ensures few { IfOk result (λ points. length (points_of points) ≤ MOST_POINTS) }
     ensures fault { (fault : TheFault) → result ≡ Err fault → IsPointFault (design_view design.now) states.now fault }
 {
-    let machines = design_machines(alloc, design, states)?;
+    let machines = all_machines(alloc, design, states)?;
     let points = all_points(alloc, design, machines)?;
     match room_left(&points) {
         Some(_) => Ok(points),
@@ -72,7 +74,7 @@ pub fn list(alloc: Global, design: &Design, states: &States) -> Result<Points, P
 /// The points, however many there are.
 fn all_points(alloc: Global, design: &Design, machines: Vec<Machine>) -> Result<Points, NoMemory>
     requires { IsLawfulDesign (design_view design.now) }
-    ensures { (ms : List StateNames) → AreMachines (design_view design.now) ms machines.items → IfOk result (IsPointList (design_view design.now) ms) }
+    ensures { (ms : StateMachines) → AreDrawable (design_view design.now) ms → AreAllMachines (design_view design.now) ms machines.items → IfOk result (IsPointList (design_view design.now) ms) }
 {
     let lines = line_points(alloc, design)?;
     let nodes = node_points(alloc, design)?;

@@ -6,10 +6,11 @@ ghost use Rattle.std.specs.List.Sorted.{IsPermutation, IsSorted, IsStrictlySorte
 ghost use Rattle.std.specs.Ordering.{eq_by_cmp};
 ghost use Rattle.design_model.specs.Design.{In};
 ghost use Rattle.design_model.specs.Lawful.{IsLawfulDesign};
-ghost use Rattle.design_model.specs.Points.{IsPoint, StateNames};
 ghost use Rattle.design_model.specs.View.{design_view};
 ghost use Rattle.design_model.specs.declared.point.Point.{Point};
-ghost use Rattle.design_machines.specs.Machines.{AreMachines};
+ghost use Rattle.design_machines.specs.Drawn.{AreAllMachines};
+ghost use Rattle.design_machines.specs.state_machines.Drawn.{AreDrawable, IsPointWith};
+ghost use Rattle.design_machines.specs.state_machines.Machines.{StateMachines};
 ghost use Rattle.cover_points.specs.Listed.{IsPlaced};
 ghost use Rattle.cover_points.specs.declared.machine_point.MachinePoint.{MachinePoint as TheMachinePoint};
 ghost use Rattle.cover_points.specs.MachinePoints.{IsOfMachine, arc_to, arcs_from, arcs_of, machine_cmp, machine_view, points_of_machine, states_of};
@@ -31,8 +32,8 @@ pub fn machine_points(
 ) -> Result<Vec<MachinePoint>, NoMemory>
     requires { IsLawfulDesign (design_view design.now) }
     ensures rise { IfOk result (λ points. IsStrictlySortedBy (machine_cmp design.now.instances machines.now) points.items) }
-    ensures placed { IfOk result (λ points. (p : TheMachinePoint) → In p points.items → IsPlaced machines.now p) }
-    ensures members { (ms : List StateNames) → AreMachines (design_view design.now) ms machines.now → IfOk result (λ points. (x : Point) → IsOfMachine x → In x (map (machine_view machines.now) points.items) ↔ IsPoint (design_view design.now) ms x) }
+    ensures placed { (ms : StateMachines) → AreAllMachines (design_view design.now) ms machines.now → IfOk result (λ points. (p : TheMachinePoint) → In p points.items → IsPlaced machines.now p) }
+    ensures members { (ms : StateMachines) → AreDrawable (design_view design.now) ms → AreAllMachines (design_view design.now) ms machines.now → IfOk result (λ points. (x : Point) → IsOfMachine x → In x (map (machine_view machines.now) points.items) ↔ IsPointWith (design_view design.now) ms x) }
 {
     let instances = design.instances.as_slice();
     let mut found = found_points(alloc, machines)?;
@@ -48,17 +49,23 @@ fn found_points(alloc: Global, machines: &[Machine]) -> Result<Vec<MachinePoint>
     let mut found = Vec::new(alloc);
     for (number, machine) in machines.iter().enumerate() {
         let count = number_of(0, machine.names.len())?;
-        push_machine(number_of(0, number)?, count, &mut found)?;
+        let leaving = number_of(0, machine.leaving)?;
+        push_machine(number_of(0, number)?, leaving, count, &mut found)?;
     }
     Ok(found)
 }
 
 /// Adds the states of a machine, and then its arcs.
-fn push_machine(machine: u32, count: u32, found: &mut Vec<MachinePoint>) -> Result<(), NoMemory>
-    ensures { OnOk result (found.new.items ≡ found.old.items ++ (states_of machine count ++ arcs_of machine count)) }
+fn push_machine(
+    machine: u32,
+    leaving: u32,
+    count: u32,
+    found: &mut Vec<MachinePoint>,
+) -> Result<(), NoMemory>
+    ensures { OnOk result (found.new.items ≡ found.old.items ++ (states_of machine count ++ arcs_of machine leaving count)) }
 {
     push_states(machine, count, found)?;
-    push_arcs(machine, count, found)
+    push_arcs(machine, leaving, count, found)
 }
 
 /// Adds the states of a machine.
@@ -71,11 +78,16 @@ fn push_states(machine: u32, count: u32, found: &mut Vec<MachinePoint>) -> Resul
     Ok(())
 }
 
-/// Adds the arcs of a machine.
-fn push_arcs(machine: u32, count: u32, found: &mut Vec<MachinePoint>) -> Result<(), NoMemory>
-    ensures { OnOk result (found.new.items ≡ found.old.items ++ arcs_of machine count) }
+/// Adds the arcs of a machine that leave its first states, so many.
+fn push_arcs(
+    machine: u32,
+    leaving: u32,
+    count: u32,
+    found: &mut Vec<MachinePoint>,
+) -> Result<(), NoMemory>
+    ensures { OnOk result (found.new.items ≡ found.old.items ++ arcs_of machine leaving count) }
 {
-    for from in 0..count {
+    for from in 0..leaving {
         push_arcs_from(machine, count, from, found)?;
     }
     Ok(())

@@ -25,7 +25,7 @@ use Rattle.covered_cli.specs.SourceMessage.{source_status}
 use Rattle.design_points.specs.cover_points.declared.fault.PointFault.{PointFault}
 use Rattle.design_points.specs.cover_points.declared.fault.PointFault.TheVariants as point_fault
 use Rattle.covered_cli.specs.declared.fault.Fault.{Fault}
-use Rattle.covered_cli.specs.declared.fault.Fault.TheVariants.{Usage, Source, Points as PointsFault, Dump, Contradiction, Files as FilesFault, Memory, Databases}
+use Rattle.covered_cli.specs.declared.fault.Fault.TheVariants.{Usage, Source, NoMachine, Points as PointsFault, Dump, Contradiction, Files as FilesFault, Memory, Databases}
 use Rattle.covered_cli.specs.declared.status.Status.TheVariants as status
 use Rattle.whole_files.proofs.EffectLemmas.{Told-map}
 
@@ -41,6 +41,7 @@ IfErr-map (Err fault) step holds = step fault holds
 stands_as_score : (words : List (List ℕ)) (values : ScoreValues) (before after : Outside) → IsScore words values → (fault : Fault) → StandsIn values before after fault → Stands words before after fault
 stands_as_score words values before after is (Usage usage) stands = absurd stands
 stands_as_score words values before after is (Source f) stands = (values, is, stands)
+stands_as_score words values before after is (NoMachine name) stands = (values, is, stands)
 stands_as_score words values before after is (PointsFault p) stands = (values, is, stands)
 stands_as_score words values before after is (Dump refusal) stands = (values, is, stands)
 stands_as_score words values before after is (Contradiction found) stands = (values, is, stands)
@@ -51,6 +52,7 @@ stands_as_score words values before after is (Databases f) stands = absurd stand
 stands_as_merge : (words : List (List ℕ)) (values : MergeValues) (before after : Outside) → IsMerge words values → (fault : Fault) → IsDatabaseFault (IsMergeFault values before after) fault → Stands words before after fault
 stands_as_merge words values before after is (Usage usage) stands = absurd stands
 stands_as_merge words values before after is (Source f) stands = absurd stands
+stands_as_merge words values before after is (NoMachine name) stands = absurd stands
 stands_as_merge words values before after is (PointsFault p) stands = absurd stands
 stands_as_merge words values before after is (Dump refusal) stands = absurd stands
 stands_as_merge words values before after is (Contradiction found) stands = absurd stands
@@ -61,6 +63,7 @@ stands_as_merge words values before after is (Databases f) stands = inl (values,
 stands_as_report : (words : List (List ℕ)) (values : ReportValues) (before after : Outside) → IsReport words values → (fault : Fault) → IsDatabaseFault (IsReportFault values before after) fault → Stands words before after fault
 stands_as_report words values before after is (Usage usage) stands = absurd stands
 stands_as_report words values before after is (Source f) stands = absurd stands
+stands_as_report words values before after is (NoMachine name) stands = absurd stands
 stands_as_report words values before after is (PointsFault p) stands = absurd stands
 stands_as_report words values before after is (Dump refusal) stands = absurd stands
 stands_as_report words values before after is (Contradiction found) stands = absurd stands
@@ -71,6 +74,7 @@ stands_as_report words values before after is (Databases f) stands = inr (inl (v
 stands_as_lcov : (words : List (List ℕ)) (values : LcovValues) (before after : Outside) → IsLcov words values → (fault : Fault) → IsDatabaseFault (IsLcovFault values before after) fault → Stands words before after fault
 stands_as_lcov words values before after is (Usage usage) stands = absurd stands
 stands_as_lcov words values before after is (Source f) stands = absurd stands
+stands_as_lcov words values before after is (NoMachine name) stands = absurd stands
 stands_as_lcov words values before after is (PointsFault p) stands = absurd stands
 stands_as_lcov words values before after is (Dump refusal) stands = absurd stands
 stands_as_lcov words values before after is (Contradiction found) stands = absurd stands
@@ -156,6 +160,7 @@ points_no_usage (point_fault.TooManyStates name) same = cc
 pub usage_exactly : (words : List (List ℕ)) (before after : Outside) → (fault : Fault) → Stands words before after fault → (status_of fault ≡ status.Usage) ↔ IsNoCommand words
 usage_exactly words before after (Usage usage) stands = (λ same. (usage, stands), λ none. refl)
 usage_exactly words before after (Source f) stands = (λ same. absurd (source_no_usage f same), λ none. absurd (command_or_fault words (score stands.0, stands.1) none))
+usage_exactly words before after (NoMachine name) stands = (λ same. cc, λ none. absurd (command_or_fault words (score stands.0, stands.1) none))
 usage_exactly words before after (PointsFault p) stands = (λ same. absurd (points_no_usage p same), λ none. absurd (command_or_fault words (score stands.0, stands.1) none))
 usage_exactly words before after (Dump refusal) stands = (λ same. cc, λ none. absurd (command_or_fault words (score stands.0, stands.1) none))
 usage_exactly words before after (Contradiction found) stands = (λ same. cc, λ none. absurd (command_or_fault words (score stands.0, stands.1) none))
@@ -187,6 +192,7 @@ no_contradiction (database_fault.DesignsDiffer file line first other) same = cc
 pub contradiction_cause : (words : List (List ℕ)) (before after : Outside) (fault : Fault) → Stands words before after fault → status_of fault ≡ status.Contradiction → HasContradiction words before
 contradiction_cause words before after (Usage usage) stands same = absurd (cc)
 contradiction_cause words before after (Source f) stands same = absurd (source_no_contradiction f same)
+contradiction_cause words before after (NoMachine name) stands same = absurd (cc)
 contradiction_cause words before after (PointsFault p) stands same = absurd (points_no_contradiction p same)
 contradiction_cause words before after (Dump refusal) stands same = absurd (cc)
 contradiction_cause words before after (Contradiction found) stands same = (stands.0, stands.1, found, stands.2)

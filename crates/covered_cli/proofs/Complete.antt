@@ -33,13 +33,16 @@ use Rattle.source_design.specs.declared.fault.SourceFault.TheVariants as source_
 use Rattle.covered_cli.proofs.Causes.{command_or_fault, score_or_databases}
 use Rattle.covered_cli.proofs.GoodDumps.{not_contradicted, not_refused, same_bindable, same_bound, same_shown}
 use Rattle.covered_cli.specs.Complete.{EndsWith, HasBadDump, HasBadSource, HasText, HasUnboundDump, HaveTexts, IsCommandWith, IsGoodScore, IsOfBinding, LacksPoints, NoFaults, RefusesBinding, RefusesDump, RefusesPoints}
+use Rattle.covered_cli.specs.Drawing.{IsNoMachineOf}
 use Rattle.covered_cli.specs.Effects.{WarnsLine}
 use Rattle.covered_cli.specs.Fault.{IsRefused, NamesFile, Stands, line_of, status_of}
 use Rattle.covered_cli.proofs.Designs.{lawful_design}
 use Rattle.covered_cli.specs.PointsMessage.{points_line, points_status}
-use Rattle.covered_cli.specs.ScoreMachines.{habit_in, machines_in}
+use Rattle.covered_cli.specs.ScoreMachines.{AreMachinesOf, habit_in}
+use Rattle.state_machines.specs.Machines.{StateMachines}
+use Rattle.covered_cli.proofs.Machines.{alike_machines, none_refused}
 use Rattle.covered_cli.specs.ScoreSources.{sources_in}
-use Rattle.covered_cli.specs.Scoring.{HasDesign, HasNoScore, HasPointsFault, HasSomeDesign, IsContradictedDump, IsContradictedText, IsDone, IsDoneBy, IsDoneIn, IsDumpRefusal, IsRefusedDump}
+use Rattle.covered_cli.specs.Scoring.{HasDesign, HasNoMachine, HasNoScore, HasPointsFault, HasSomeDesign, IsContradictedDump, IsContradictedText, IsDone, IsDoneBy, IsDoneIn, IsDumpRefusal, IsRefusedDump}
 use Rattle.covered_cli.specs.SourceMessage.{source_status}
 use Rattle.covered_cli.specs.declared.contradiction.Contradiction.{Contradiction}
 use Rattle.covered_cli.specs.declared.dump_refusal.DumpRefusal.{DumpRefusal}
@@ -106,7 +109,15 @@ module _ (score : ScoreValues) (before : Outside) (design : Design) (text : List
   points_listed : (p : PointFault) → HasPointsFault score before p → p ≡ point_fault.NoMemory
   points_listed p has =
       let same = one_found score before texts.sources told texts.has_design.gathered design texts.has_design.stands has.sources has.design has.gathered has.stands in
-      no_points_fault (design_view design) (machines_in score) p (lawful_design texts.sources (sources_in score).defines score.top design texts.has_design.stands) texts.has_design.few (subst (λ d. IsPointFault d (machines_in score) p) (sym same) has.is)
+      let own = texts.has_design in
+      let there : AreMachinesOf score (design_view design) has.machines = subst (λ d. AreMachinesOf score d has.machines) (sym same) has.are_machines in
+      no_points_fault (design_view design) own.machines has.machines p (lawful_design texts.sources (sources_in score).defines score.top design own.stands) (alike_machines score (design_view design) own.machines has.machines own.are_machines there) own.few (subst (λ d. IsPointFault d has.machines p) (sym same) has.is)
+
+  -- its machines can be drawn
+  machines_drawn : (name : List ℕ) → HasNoMachine score before name → ⊥
+  machines_drawn name has =
+      let same = one_found score before texts.sources told texts.has_design.gathered design texts.has_design.stands has.sources has.design has.gathered has.stands in
+      none_refused score (design_view design) (lawful_design texts.sources (sources_in score).defines score.top design texts.has_design.stands) texts.has_design.machines texts.has_design.are_machines name (subst (λ d. IsNoMachineOf d score.drawings name) (sym same) has.is)
 
   -- the dump that a relation finds is the one that is told
   same_text : (other : List ℕ) → IfSome before.files (λ files. files score.dump ≡ Some other) → text ≡ other
@@ -161,11 +172,12 @@ module _ (score : ScoreValues) (before : Outside) (lacks : LacksPoints score bef
   not_listed : (others : List SourceText) (other : Design) → HasDesign score before others other → ⊥
   not_listed others other has =
       let same = same_design score before lacks.sources lacks.told lacks.gathered lacks.design lacks.stands others other has in
-      lacks.refused (subst (λ d. HasFewPoints d (machines_in score)) (sym same) has.few)
+      lacks.refused has.machines (subst (λ d. AreMachinesOf score d has.machines) (sym same) has.are_machines) (subst (λ d. HasFewPoints d has.machines) (sym same) has.few)
 
 -- how the faults of a score end
 record End (score : ScoreValues) (before middle : Outside) (Ends : Status → Type 0) : Type 0 where
   of_source : (f : SourceFault) → IsSourceFault (sources_in score) before middle f → Ends (source_status f)
+  of_machine : (name : List ℕ) → HasNoMachine score before name → Ends source_status_of
   of_points : (p : PointFault) → HasPointsFault score before p → Ends (points_status p)
   of_dump : (r : DumpRefusal) → IsRefusedDump score before r → Ends dump_status
   of_contradiction : (x : Contradiction) → IsContradictedDump score before x → Ends contradiction_status
@@ -177,6 +189,7 @@ module _ (words : List (List ℕ)) (score : ScoreValues) (is_score : IsScore wor
   ends_with : (f : Fault) → Stands words before middle f → Ends (status_of f)
   ends_with (fault.Usage usage) stands = absurd (command_or_fault words (of_score score, is_score) (usage, stands))
   ends_with (fault.Source f) stands = end.of_source f (subst (λ score. IsSourceFault (sources_in score) before middle f) (one_command words stands.0 score stands.1 is_score) stands.2)
+  ends_with (fault.NoMachine name) stands = end.of_machine name.now (subst (λ score. HasNoMachine score before name.now) (one_command words stands.0 score stands.1 is_score) stands.2)
   ends_with (fault.Points p) stands = end.of_points p (subst (λ score. HasPointsFault score before p) (one_command words stands.0 score stands.1 is_score) stands.2)
   ends_with (fault.Dump r) stands = end.of_dump r (subst (λ score. IsRefusedDump score before r) (one_command words stands.0 score stands.1 is_score) stands.2)
   ends_with (fault.Contradiction x) stands = end.of_contradiction x (subst (λ score. IsContradictedDump score before x) (one_command words stands.0 score stands.1 is_score) stands.2)
@@ -217,6 +230,7 @@ module _ (words : List (List ℕ)) (before middle after : Outside) (first : Coun
       ends_with words score is before middle (EndsWith Done)
       (record {
         of_source = design_ends score good.design good.text good.texts (EndsWith Done) (inr refl);
+        of_machine = λ name has. absurd (machines_drawn score before good.design good.text good.texts name has);
         of_points = λ p has. subst (λ q. EndsWith Done (points_status q)) (sym (points_listed score before good.design good.text good.texts p has)) (inr refl);
         of_dump = λ r refused. absurd (dump_stands score before good.design good.text good.texts good.dump good.is_dump good.bound r refused);
         of_contradiction = λ x refuted. absurd (dump_shown score before good.design good.text good.texts good.dump good.is_dump good.run good.shown x refuted);
@@ -229,6 +243,7 @@ module _ (words : List (List ℕ)) (before middle after : Outside) (first : Coun
       ends_with words score is before middle RefusesDump
       (record {
         of_source = design_ends score bad.design bad.text bad.texts RefusesDump (inr (inr refl));
+        of_machine = λ name has. absurd (machines_drawn score before bad.design bad.text bad.texts name has);
         of_points = λ p has. subst (λ q. RefusesDump (points_status q)) (sym (points_listed score before bad.design bad.text bad.texts p has)) (inr (inr refl));
         of_dump = λ r refused. inl refl;
         of_contradiction = λ x refuted. inr (inl refl);
@@ -254,6 +269,7 @@ module _ (words : List (List ℕ)) (before middle after : Outside) (first : Coun
       ends_with words score is before middle (EndsWith source_status_of)
       (record {
         of_source = λ g stands. bad_ends g (files_read (sources_in score) before bad.sources bad.told bad.gathered middle none_yet g stands);
+        of_machine = λ name has. inl refl;
         of_points = λ p has. points_end_so p;
         of_dump = λ r refused. absurd (no_design score before bad.sources bad.told bad.gathered bad.refused r refused);
         of_contradiction = λ x refuted. absurd (no_shown_design score before bad.sources bad.told bad.gathered bad.refused x refuted);
@@ -270,6 +286,7 @@ module _ (words : List (List ℕ)) (before middle after : Outside) (first : Coun
       go : (f : Fault) → Stands words before middle f → WarnsLine (line_of f) before after → RefusesBinding words (status_of f) before after
       go (fault.Usage usage) stands warned = absurd (command_or_fault words (of_score score, is) (usage, stands))
       go (fault.Source g) stands warned = inr (memory_alone g (subst (λ score. IsSourceFault (sources_in score) before middle g) (one_command words stands.0 score stands.1 is) stands.2))
+      go (fault.NoMachine name) stands warned = absurd (machines_drawn score before u.design u.text u.texts name.now (subst (λ score. HasNoMachine score before name.now) (one_command words stands.0 score stands.1 is) stands.2))
       go (fault.Points p) stands warned =
           let none = points_listed score before u.design u.text u.texts p (subst (λ score. HasPointsFault score before p) (one_command words stands.0 score stands.1 is) stands.2) in
           inr (ap points_status none)
@@ -291,15 +308,18 @@ module _ (words : List (List ℕ)) (before middle after : Outside) (first : Coun
     where
       so : (p : PointFault) → HasPointsFault score before p → WarnsLine (points_line p) before after → RefusesPoints words (points_status p) before after
       so point_fault.NoMemory has warned = inr refl
-      so (point_fault.NoState name) has warned = inl (refl, record { score = score; fault = point_fault.NoState name; is_score = is; stands = has; warned = warned })
-      so (point_fault.SameState name) has warned = inl (refl, record { score = score; fault = point_fault.SameState name; is_score = is; stands = has; warned = warned })
-      so point_fault.TooManyPoints has warned = inl (refl, record { score = score; fault = point_fault.TooManyPoints; is_score = is; stands = has; warned = warned })
-      so (point_fault.TooManyStates name) has warned = inl (refl, record { score = score; fault = point_fault.TooManyStates name; is_score = is; stands = has; warned = warned })
+      so (point_fault.NoState name) has warned = inl (refl, inr (record { score = score; fault = point_fault.NoState name; is_score = is; stands = has; warned = warned }))
+      so (point_fault.SameState name) has warned = inl (refl, inr (record { score = score; fault = point_fault.SameState name; is_score = is; stands = has; warned = warned }))
+      so point_fault.TooManyPoints has warned = inl (refl, inr (record { score = score; fault = point_fault.TooManyPoints; is_score = is; stands = has; warned = warned }))
+      so (point_fault.TooManyStates name) has warned = inl (refl, inr (record { score = score; fault = point_fault.TooManyStates name; is_score = is; stands = has; warned = warned }))
 
       go : (f : Fault) → Stands words before middle f → WarnsLine (line_of f) before after → RefusesPoints words (status_of f) before after
       go (fault.Usage usage) stands warned = absurd (command_or_fault words (of_score score, is) (usage, stands))
       go (fault.Source g) stands warned =
           inr (ap source_status (design_or_fault (sources_in score) before lacks.sources lacks.told lacks.gathered lacks.design lacks.stands middle none_yet g (subst (λ score. IsSourceFault (sources_in score) before middle g) (one_command words stands.0 score stands.1 is) stands.2)))
+      go (fault.NoMachine name) stands warned =
+          let has = subst (λ score. HasNoMachine score before name.now) (one_command words stands.0 score stands.1 is) stands.2 in
+          inl (refl, inl (record { score = score; name = name.now; is_score = is; stands = has; warned = warned }))
       go (fault.Points p) stands warned = so p (subst (λ score. HasPointsFault score before p) (one_command words stands.0 score stands.1 is) stands.2) warned
       go (fault.Dump r) stands warned =
           let refused = subst (λ score. IsRefusedDump score before r) (one_command words stands.0 score stands.1 is) stands.2 in

@@ -36,7 +36,7 @@ use Rattle.covered_cli.specs.SourceMessage.{source_status}
 use Rattle.design_points.specs.cover_points.declared.fault.PointFault.{PointFault}
 use Rattle.design_points.specs.cover_points.declared.fault.PointFault.TheVariants as point_fault
 use Rattle.covered_cli.specs.declared.fault.Fault.{Fault}
-use Rattle.covered_cli.specs.declared.fault.Fault.TheVariants.{Usage, Source, Points as PointsFault, Dump, Contradiction, Files as FilesFault, Memory, Databases}
+use Rattle.covered_cli.specs.declared.fault.Fault.TheVariants.{Usage, Source, NoMachine, Points as PointsFault, Dump, Contradiction, Files as FilesFault, Memory, Databases}
 use Rattle.covered_cli.specs.declared.status.Status.TheVariants as status
 use Rattle.covered_cli.proofs.Causes.{command_or_fault}
 
@@ -44,6 +44,7 @@ use Rattle.covered_cli.proofs.Causes.{command_or_fault}
 pub early_status : (fault : Fault) → HasEarlyStatus (status_of fault) → IsEarly fault
 early_status (Usage usage) early = tt
 early_status (Source f) early = tt
+early_status (NoMachine name) early = tt
 early_status (PointsFault p) early = tt
 early_status (Dump refusal) early = tt
 early_status (Contradiction found) early = tt
@@ -94,6 +95,7 @@ good_fault alloc words before after none (inr (inr good)) f (inr (inr stands)) =
 pub good_databases_end : (alloc : Global) (words : List (List ℕ)) (before middle after : Outside) → CountsUp before middle → CountsUp middle after → NoFaults before after → (fault : Fault) → Stands words before middle fault → HasGoodDatabases words before → EndsWith status.Done (status_of fault)
 good_databases_end alloc words before middle after first second none (Usage usage) stands good = absurd (command_or_fault words (good_are_words words before good) (usage, stands))
 good_databases_end alloc words before middle after first second none (Source f) stands good = absurd (good_or_score words before stands.0 good stands.1)
+good_databases_end alloc words before middle after first second none (NoMachine name) stands good = absurd (good_or_score words before stands.0 good stands.1)
 good_databases_end alloc words before middle after first second none (PointsFault p) stands good = absurd (good_or_score words before stands.0 good stands.1)
 good_databases_end alloc words before middle after first second none (Dump refusal) stands good = absurd (good_or_score words before stands.0 good stands.1)
 good_databases_end alloc words before middle after first second none (Contradiction found) stands good = absurd (good_or_score words before stands.0 good stands.1)
@@ -146,6 +148,7 @@ source_no_database (source_fault.Refused refusal) same = cc
 pub database_cause : (words : List (List ℕ)) (before after : Outside) (fault : Fault) → Stands words before after fault → status_of fault ≡ status.Database → HasDatabaseCause words before
 database_cause words before after (Usage usage) stands is = absurd (cc)
 database_cause words before after (Source f) stands is = absurd (source_no_database f is)
+database_cause words before after (NoMachine name) stands is = absurd (cc)
 database_cause words before after (PointsFault p) stands is = absurd (points_no_database p is)
 database_cause words before after (Dump refusal) stands is = absurd (cc)
 database_cause words before after (Contradiction found) stands is = absurd (cc)
@@ -215,6 +218,7 @@ databases_files_cause words before after (database.DesignsDiffer file line first
 files_fault_cause : (words : List (List ℕ)) (before after : Outside) (fault : Fault) → Stands words before after fault → status_of fault ≡ status.Files → HasFilesCause words before after
 files_fault_cause words before after (Usage usage) stands is = absurd (cc)
 files_fault_cause words before after (Source f) stands is = source_files_cause words before after stands.0 stands.1 f stands.2 is
+files_fault_cause words before after (NoMachine name) stands is = absurd (cc)
 files_fault_cause words before after (PointsFault p) stands is = absurd (points_no_files p is)
 files_fault_cause words before after (Dump refusal) stands is = absurd (cc)
 files_fault_cause words before after (Contradiction found) stands is = absurd (cc)
@@ -307,6 +311,7 @@ module _ (before middle after : Outside) (first : CountsUp before middle) (secon
   pub stands_later : (words : List (List ℕ)) (fault : Fault) → Stands words before middle fault → Stands words before after fault
   stands_later words (Usage usage) stands = stands
   stands_later words (Source f) stands = (stands.0, stands.1, source_later (sources_in stands.0) f stands.2)
+  stands_later words (NoMachine name) stands = stands
   stands_later words (PointsFault p) stands = stands
   stands_later words (Dump refusal) stands = stands
   stands_later words (Contradiction found) stands = stands

@@ -7,7 +7,7 @@ use Rattle.cov_host.specs.Outside.{Outside}
 use Rattle.coverage_db.specs.Table.{is_file_name}
 use Rattle.cover_points.specs.declared.listing.Points.{Points}
 use Rattle.design_model.specs.Lawful.{IsLawfulDesign}
-use Rattle.design_model.specs.Points.{StateNames}
+use Rattle.state_machines.specs.Machines.{StateMachines}
 use Rattle.design_model.specs.View.{design_view}
 use Rattle.design_model.specs.declared.design.Design.{Design}
 use Rattle.design_points.specs.Counted.{AreAllPoints}
@@ -34,7 +34,7 @@ lawful_design sources defines top design stands =
     answered_lawful stands.modules top (design_view design) (modules_of_tokens a.tokens stands.modules sound a.spelled) stands.flat
 
 -- its dumps can be replayed, with all its points
-pub replayable_design : (sources : List SourceText) (defines : List DefineText) (top : List ℕ) (design : Design) (machines : List StateNames) (points : Points) → StandFor sources defines top design → AreAllPoints (design_view design) machines points → IsReplayable (design_view design) points
+pub replayable_design : (sources : List SourceText) (defines : List DefineText) (top : List ℕ) (design : Design) (machines : StateMachines) (points : Points) → StandFor sources defines top design → AreAllPoints (design_view design) machines points → IsReplayable (design_view design) points
 replayable_design sources defines top design machines points stands all =
     let a = stands.accepted in
     let sound = tokens_are_sound sources defines a.tokens a.lexed in

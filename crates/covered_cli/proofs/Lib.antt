@@ -5,7 +5,9 @@ pub mod Databases
 pub mod SourceNames
 pub mod Designs
 pub mod Lines
+pub mod Digits
 pub mod Machines
+pub mod Drawings
 pub mod Scoring
 pub mod Refusing
 pub mod WordLists

@@ -6,10 +6,10 @@ use Rattle.command_line.specs.CommandWords.{ScoreValues}
 use Rattle.command_line.specs.declared.command.Command.{Command}
 use Rattle.cov_host.specs.Outside.{Outside, Files, IsCounted, KeepsFiles, SameFiles, Told, HasFile}
 use Rattle.covered_cli.specs.Covered.{KeepsOthers}
-use Rattle.covered_cli.specs.Fault.{IsDesignFault, IsEarly, IsPointsFault, IsReadingFault, IsScoringFault, IsWritingFault, StandsIn}
+use Rattle.covered_cli.specs.Fault.{IsDesignFault, IsDrawingFault, IsEarly, IsPointsFault, IsReadingFault, IsScoringFault, IsWritingFault, StandsIn}
 use Rattle.covered_cli.specs.Scoring.{HasDesign, HasDump, HasSomeDesign, IsContradictedText, IsDone, IsDoneIn, IsDoneWork, IsDumpRefusal, names_of}
 use Rattle.covered_cli.specs.declared.fault.Fault.{Fault}
-use Rattle.covered_cli.specs.declared.fault.Fault.TheVariants.{Usage, Source, Points as PointsFault, Dump, Contradiction, Files as FilesFault, Memory, Databases}
+use Rattle.covered_cli.specs.declared.fault.Fault.TheVariants.{Usage, Source, NoMachine, Points as PointsFault, Dump, Contradiction, Files as FilesFault, Memory, Databases}
 use Rattle.cover_points.specs.declared.listing.Points.{Points}
 use Rattle.design_model.specs.Points.{StateNames}
 use Rattle.design_model.specs.View.{design_view}
@@ -17,7 +17,8 @@ use Rattle.design_model.specs.declared.design.Design.{Design}
 use Rattle.design_points.specs.Counted.{AreAllPoints}
 use Rattle.source_design.specs.Accepted.{StandFor}
 use Rattle.source_design.specs.Reading.{HasSources}
-use Rattle.covered_cli.specs.ScoreMachines.{habit_in, machines_in}
+use Rattle.covered_cli.specs.ScoreMachines.{AreMachinesOf, habit_in}
+use Rattle.state_machines.specs.Machines.{StateMachines}
 use Rattle.covered_cli.specs.ScoreSources.{sources_in}
 use Rattle.coverage_db.specs.Text.{text_of}
 use Rattle.coverage_db.specs.declared.db.Db.{Db}
@@ -50,6 +51,7 @@ file_as_before name text (Some before) (Some after) same is = sym (same name) �
 pub design_stands : (score : ScoreValues) (before after : Outside) (fault : Fault) → IsDesignFault score before after fault → StandsIn score before after fault
 design_stands score before after (Usage usage) is = absurd is
 design_stands score before after (Source f) is = is
+design_stands score before after (NoMachine name) is = absurd is
 design_stands score before after (PointsFault p) is = absurd is
 design_stands score before after (Dump refusal) is = absurd is
 design_stands score before after (Contradiction found) is = absurd is
@@ -58,19 +60,32 @@ design_stands score before after Memory is = tt
 design_stands score before after (Databases f) is = absurd is
 
 -- the design has all points that were listed
-pub has_listed : (score : ScoreValues) (before : Outside) (sources : List SourceText) (design : Design) (points : Points) → HasSources (sources_in score) before sources → StandFor sources (sources_in score).defines score.top design → AreAllPoints (design_view design) (machines_in score) points → HasDesign score before sources design
-has_listed score before sources design points gathered stands all = record { gathered = gathered; stands = stands; few = (points, all.listed, all.few) }
+pub has_listed : (score : ScoreValues) (before : Outside) (sources : List SourceText) (design : Design) (machines : StateMachines) (points : Points) → AreMachinesOf score (design_view design) machines → HasSources (sources_in score) before sources → StandFor sources (sources_in score).defines score.top design → AreAllPoints (design_view design) machines points → HasDesign score before sources design
+has_listed score before sources design machines points are gathered stands all = record { gathered = gathered; stands = stands; machines = machines; are_machines = are; few = (points, all.listed, all.few) }
 
 -- a fault of points stands
-points_stand : (score : ScoreValues) (before after : Outside) (sources : List SourceText) (design : Design) → HasSources (sources_in score) before sources → StandFor sources (sources_in score).defines score.top design → (fault : Fault) → IsPointsFault design (machines_in score) fault → StandsIn score before after fault
-points_stand score before after sources design gathered stands (Usage usage) is = absurd is
-points_stand score before after sources design gathered stands (Source f) is = absurd is
-points_stand score before after sources design gathered stands (PointsFault p) is = record { sources = sources; design = design; gathered = gathered; stands = stands; is = is }
-points_stand score before after sources design gathered stands (Dump refusal) is = absurd is
-points_stand score before after sources design gathered stands (Contradiction found) is = absurd is
-points_stand score before after sources design gathered stands (FilesFault call file) is = absurd is
-points_stand score before after sources design gathered stands Memory is = absurd is
-points_stand score before after sources design gathered stands (Databases f) is = absurd is
+pub points_stand : (score : ScoreValues) (before after : Outside) (sources : List SourceText) (design : Design) (machines : StateMachines) → AreMachinesOf score (design_view design) machines → HasSources (sources_in score) before sources → StandFor sources (sources_in score).defines score.top design → (fault : Fault) → IsPointsFault design machines fault → StandsIn score before after fault
+points_stand score before after sources design machines are gathered stands (Usage usage) is = absurd is
+points_stand score before after sources design machines are gathered stands (Source f) is = absurd is
+points_stand score before after sources design machines are gathered stands (NoMachine name) is = absurd is
+points_stand score before after sources design machines are gathered stands (PointsFault p) is = record { sources = sources; design = design; gathered = gathered; stands = stands; machines = machines; are_machines = are; is = is }
+points_stand score before after sources design machines are gathered stands (Dump refusal) is = absurd is
+points_stand score before after sources design machines are gathered stands (Contradiction found) is = absurd is
+points_stand score before after sources design machines are gathered stands (FilesFault call file) is = absurd is
+points_stand score before after sources design machines are gathered stands Memory is = absurd is
+points_stand score before after sources design machines are gathered stands (Databases f) is = absurd is
+
+-- a fault of a machine that is drawn stands
+pub drawing_stands : (score : ScoreValues) (before after : Outside) (sources : List SourceText) (design : Design) → HasSources (sources_in score) before sources → StandFor sources (sources_in score).defines score.top design → (fault : Fault) → IsDrawingFault (design_view design) score.drawings fault → StandsIn score before after fault
+drawing_stands score before after sources design gathered stands (Usage usage) is = absurd is
+drawing_stands score before after sources design gathered stands (Source f) is = absurd is
+drawing_stands score before after sources design gathered stands (NoMachine name) is = record { sources = sources; design = design; gathered = gathered; stands = stands; is = is }
+drawing_stands score before after sources design gathered stands (PointsFault p) is = absurd is
+drawing_stands score before after sources design gathered stands (Dump refusal) is = absurd is
+drawing_stands score before after sources design gathered stands (Contradiction found) is = absurd is
+drawing_stands score before after sources design gathered stands (FilesFault call file) is = absurd is
+drawing_stands score before after sources design gathered stands Memory is = tt
+drawing_stands score before after sources design gathered stands (Databases f) is = absurd is
 
 -- so does one with equal machines
 pub points_stand_with : (score : ScoreValues) (before after : Outside) (sources : List SourceText) (design : Design) → HasSources (sources_in score) before sources → StandFor sources (sources_in score).defines score.top design → (ms : List StateNames) → ms ≡ machines_in score → (fault : Fault) → IsPointsFault design ms fault → StandsIn score before after fault
@@ -80,6 +95,7 @@ points_stand_with score before after sources design gathered stands ms same faul
 reading_stands : (score : ScoreValues) (before middle after : Outside) → HasSomeDesign score before → KeepsFiles before middle → CountsUp before middle → CountsUp middle after → (fault : Fault) → IsReadingFault score.dump middle after fault → StandsIn score before after fault
 reading_stands score before middle after has kept first second (Usage usage) is = absurd is
 reading_stands score before middle after has kept first second (Source f) is = absurd is
+reading_stands score before middle after has kept first second (NoMachine name) is = absurd is
 reading_stands score before middle after has kept first second (PointsFault p) is = absurd is
 reading_stands score before middle after has kept first second (Dump refusal) is = absurd is
 reading_stands score before middle after has kept first second (Contradiction found) is = absurd is
@@ -107,6 +123,7 @@ pub scoring_stands : (score : ScoreValues) (sources : List SourceText) (design :
 scoring_stands score sources design before middle after has kept first second (Dump refusal) is = has_dump score sources design before middle (λ d text. IsDumpRefusal d score.instance text refusal) has kept is
 scoring_stands score sources design before middle after has kept first second (Contradiction found) is = has_dump score sources design before middle (λ d text. IsContradictedText (habit_in score) d score.instance text found) has kept is
 scoring_stands score sources design before middle after has kept first second (Usage usage) is = reading_stands score before middle after (sources, design, has) kept first second (Usage usage) is
+scoring_stands score sources design before middle after has kept first second (NoMachine name) is = absurd is
 scoring_stands score sources design before middle after has kept first second (PointsFault p) is = absurd is
 scoring_stands score sources design before middle after has kept first second (Source f) is = reading_stands score before middle after (sources, design, has) kept first second (Source f) is
 scoring_stands score sources design before middle after has kept first second (FilesFault call file) is = reading_stands score before middle after (sources, design, has) kept first second (FilesFault call file) is
@@ -122,8 +139,8 @@ written_since name text (Some before) (Some middle) None same written = absurd w
 written_since name text (Some before) (Some middle) (Some after) same written = record { named = written.named; others = λ other apart. written.others other apart ∙ same other }
 
 -- what was read, scored and written is what the command asks for
-pub score_is_done : (score : ScoreValues) (sources : List SourceText) (names : List (List ℕ)) (text : List ℕ) (design : Design) (db : Db) (before middle later after : Outside) → HasDesign score before sources design → names ≡ names_of sources → KeepsFiles before middle → KeepsFiles before later
-    → IsScoreOfFile score.dump middle (habit_in score) design (machines_in score) names score.instance db → text ≡ text_of db → Told (HasFile score.output text) later.files after.files → IsDoneIn score before after
+pub score_is_done : (score : ScoreValues) (sources : List SourceText) (names : List (List ℕ)) (text : List ℕ) (design : Design) (db : Db) (before middle later after : Outside) (has : HasDesign score before sources design) → names ≡ names_of sources → KeepsFiles before middle → KeepsFiles before later
+    → IsScoreOfFile score.dump middle (habit_in score) design has.machines names score.instance db → text ≡ text_of db → Told (HasFile score.output text) later.files after.files → IsDoneIn score before after
 score_is_done score sources names text design db before middle later after has are_names kept same scored is_text written = record {
   sources = sources;
   dump = scored.text;
@@ -164,6 +181,7 @@ IfErr-map (Err fault) step holds = step fault holds
 pub writing_stands : (score : ScoreValues) (before later after : Outside) → HasSomeDesign score before → CountsUp before later → CountsUp later after → (fault : Fault) → IsWritingFault score.output later after fault → StandsIn score before after fault
 writing_stands score before later after has first second (Usage usage) is = absurd is
 writing_stands score before later after has first second (Source f) is = absurd is
+writing_stands score before later after has first second (NoMachine name) is = absurd is
 writing_stands score before later after has first second (PointsFault p) is = absurd is
 writing_stands score before later after has first second (Dump refusal) is = absurd is
 writing_stands score before later after has first second (Contradiction found) is = absurd is
@@ -179,6 +197,7 @@ writing_stands score before later after has first second (Databases f) is = absu
 pub writing_is_late : (name : List ℕ) (before after : Outside) (fault : Fault) → IsWritingFault name before after fault → IsEarly fault → ⊥
 writing_is_late name before after (Usage usage) is early = is
 writing_is_late name before after (Source f) is early = is
+writing_is_late name before after (NoMachine name) is early = is
 writing_is_late name before after (PointsFault p) is early = is
 writing_is_late name before after (Dump refusal) is early = is
 writing_is_late name before after (Contradiction found) is early = is

@@ -14,14 +14,15 @@ use Rattle.vcd_reader.specs.Dump.{Dump as SpecDump, IsDump, SaysBody}
 use Rattle.vcd_reader.specs.Reading.{Body}
 use Rattle.covered_cli.specs.DumpRefusal.{refusal_line}
 use Rattle.covered_cli.specs.Effects.{WarnsLine}
-use Rattle.covered_cli.specs.PointsMessage.{points_line}
+use Rattle.covered_cli.specs.PointsMessage.{machine_line, points_line}
 use Rattle.source_design.specs.Accepted.{StandFor}
 use Rattle.source_design.specs.Reading.{HasSources}
 use Rattle.dump_score.specs.verdict_laws.Sound.{IsShownBy}
 use Rattle.verilog_lexer.specs.Sources.{SourceText}
-use Rattle.covered_cli.specs.ScoreMachines.{habit_in, machines_in}
+use Rattle.state_machines.specs.Machines.{StateMachines}
+use Rattle.covered_cli.specs.ScoreMachines.{AreMachinesOf, habit_in}
 use Rattle.covered_cli.specs.ScoreSources.{sources_in}
-use Rattle.covered_cli.specs.Scoring.{HasDesign, HasNoScore, HasPointsFault, IsRefusedDump}
+use Rattle.covered_cli.specs.Scoring.{HasDesign, HasNoMachine, HasNoScore, HasPointsFault, IsRefusedDump}
 use Rattle.covered_cli.specs.declared.dump_refusal.DumpRefusal.{DumpRefusal}
 use Rattle.covered_cli.specs.declared.dump_refusal.DumpRefusal.TheVariants as refusal
 use Rattle.covered_cli.specs.declared.status.Status.{Status}
@@ -62,7 +63,7 @@ pub record LacksPoints (score : ScoreValues) (before : Outside) : Type 0 where
   pub told : IsSome before.files
   pub gathered : HasSources (sources_in score) before sources
   pub stands : StandFor sources (sources_in score).defines score.top design
-  pub refused : HasFewPoints (design_view design) (machines_in score) → ⊥
+  pub refused : (ms : StateMachines) → AreMachinesOf score (design_view design) ms → HasFewPoints (design_view design) ms → ⊥
 
 -- the sources have a design, and the text of the dump is none that has the instance, each input, and a first value of each signal that it has
 pub record HasBadDump (score : ScoreValues) (before : Outside) : Type 0 where
@@ -95,6 +96,14 @@ pub record WarnsBinding (words : List (List ℕ)) (before after : Outside) : Typ
   pub of_binding : IsOfBinding refusal
   pub warned : WarnsLine (refusal_line refusal) before after
 
+-- the words are a command of whose machines one has this name at fault, and the line of that was warned
+pub record WarnsMachine (words : List (List ℕ)) (before after : Outside) : Type 0 where
+  pub score : ScoreValues
+  pub name : List ℕ
+  pub is_score : IsScore words score
+  pub stands : HasNoMachine score before name
+  pub warned : WarnsLine (machine_line name) before after
+
 -- the words are a command whose design has the fault of points, and the line of that was warned
 pub record WarnsPoints (words : List (List ℕ)) (before after : Outside) : Type 0 where
   pub score : ScoreValues
@@ -119,9 +128,9 @@ EndsWith expected status = (status ≡ expected) ⊎ (status ≡ Memory)
 abbrev pub RefusesDump : Status → Type 0
 RefusesDump status = (status ≡ Dump) ⊎ ((status ≡ Contradiction) ⊎ (status ≡ Memory))
 
--- the points were refused, with the line of that, or memory ran out
+-- a machine or the points were refused, with the line of that, or memory ran out
 abbrev pub RefusesPoints : List (List ℕ) → Status → Outside → Outside → Type 0
-RefusesPoints words status before after = ((status ≡ Source) × WarnsPoints words before after) ⊎ (status ≡ Memory)
+RefusesPoints words status before after = ((status ≡ Source) × (WarnsMachine words before after ⊎ WarnsPoints words before after)) ⊎ (status ≡ Memory)
 
 -- a binding was refused, or memory ran out
 abbrev pub RefusesBinding : List (List ℕ) → Status → Outside → Outside → Type 0

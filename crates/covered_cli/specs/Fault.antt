@@ -15,7 +15,10 @@ use Rattle.database_commands.specs.declared.fault.CommandFault.{CommandFault}
 use Rattle.design_model.specs.View.{design_view}
 use Rattle.design_model.specs.declared.design.Design.{Design}
 use Rattle.dump_score.specs.Reading.{IsFile}
-use Rattle.design_model.specs.Points.{StateNames}
+use Rattle.state_machines.specs.Machines.{StateMachines}
+use Rattle.command_line.specs.DrawingWords.{DrawingNames}
+use Rattle.design_model.specs.Design.{Design as Tree}
+use Rattle.covered_cli.specs.Drawing.{IsNoMachineFor, IsNoMachineOf}
 use Rattle.design_points.specs.cover_points.Faults.{IsPointFault}
 use Rattle.whole_files.specs.Call.{call_name}
 use Rattle.whole_files.specs.Effects.{IsMissing}
@@ -23,10 +26,10 @@ use Rattle.whole_files.specs.declared.call.Call.{Call}
 use Rattle.whole_files.specs.declared.call.Call.TheVariants.{OpenRead, Read, OpenWrite, Write, CloseWrite}
 use Rattle.covered_cli.specs.Contradiction.{contradiction_line}
 use Rattle.covered_cli.specs.Databases.{database_line, database_status}
-use Rattle.covered_cli.specs.PointsMessage.{points_line, points_status}
+use Rattle.covered_cli.specs.PointsMessage.{machine_line, points_line, points_status}
 use Rattle.covered_cli.specs.ScoreMachines.{habit_in}
 use Rattle.covered_cli.specs.ScoreSources.{sources_in}
-use Rattle.covered_cli.specs.Scoring.{HasPointsFault, HasSomeDesign, IsContradictedDump, IsContradictedText, IsDumpRefusal, IsRefusedDump}
+use Rattle.covered_cli.specs.Scoring.{HasNoMachine, HasPointsFault, HasSomeDesign, IsContradictedDump, IsContradictedText, IsDumpRefusal, IsRefusedDump}
 use Rattle.covered_cli.specs.SourceMessage.{source_line, source_status}
 use Rattle.covered_cli.specs.DumpRefusal.{refusal_line}
 use Rattle.source_design.specs.Reading.{IsSourceFault}
@@ -39,6 +42,7 @@ use Rattle.covered_cli.specs.declared.status.Status.TheVariants as status
 abbrev pub status_of : Fault → Status
 status_of (fault.Usage usage) = status.Usage
 status_of (fault.Source f) = source_status f
+status_of (fault.NoMachine name) = status.Source
 status_of (fault.Points f) = points_status f
 status_of (fault.Dump refusal) = status.Dump
 status_of (fault.Contradiction x) = status.Contradiction
@@ -50,6 +54,7 @@ status_of (fault.Databases f) = database_status f
 abbrev pub line_of : Fault → List ℕ
 line_of (fault.Usage usage) = codes "covered: usage: " ++ usage_text usage ++ codes "\n"
 line_of (fault.Source f) = source_line f
+line_of (fault.NoMachine name) = machine_line name.now
 line_of (fault.Points f) = points_line f
 line_of (fault.Dump refusal) = refusal_line refusal
 line_of (fault.Contradiction x) = contradiction_line x
@@ -73,6 +78,7 @@ IsRefused call file before after = IsCounted before.faults after.faults
 abbrev pub StandsIn : ScoreValues → Outside → Outside → Fault → Type 0
 StandsIn score before after (fault.Usage usage) = ⊥
 StandsIn score before after (fault.Source f) = IsSourceFault (sources_in score) before after f
+StandsIn score before after (fault.NoMachine name) = HasNoMachine score before name.now
 StandsIn score before after (fault.Points f) = HasPointsFault score before f
 StandsIn score before after (fault.Dump refusal) = IsRefusedDump score before refusal
 StandsIn score before after (fault.Contradiction x) = IsContradictedDump score before x
@@ -152,9 +158,21 @@ IsDesignFault score before after fault.Memory = Unit {0}
 IsDesignFault score before after other = ⊥
 
 -- the points of the design with these machines were not listed
-abbrev pub IsPointsFault : Design → List StateNames → Fault → Type 0
+abbrev pub IsPointsFault : Design → StateMachines → Fault → Type 0
 IsPointsFault design machines (fault.Points f) = IsPointFault (design_view design) machines f
 IsPointsFault design machines other = ⊥
+
+-- one machine was not drawn
+abbrev pub IsDrawingFaultOf : Tree → DrawingNames → Fault → Type 0
+IsDrawingFaultOf d m (fault.NoMachine name) = IsNoMachineFor d m name.now
+IsDrawingFaultOf d m fault.Memory = Unit {0}
+IsDrawingFaultOf d m other = ⊥
+
+-- one of the machines was not drawn, the first that cannot be
+abbrev pub IsDrawingFault : Tree → List DrawingNames → Fault → Type 0
+IsDrawingFault d xs (fault.NoMachine name) = IsNoMachineOf d xs name.now
+IsDrawingFault d xs fault.Memory = Unit {0}
+IsDrawingFault d xs other = ⊥
 
 -- the design was not scored by the command's dump
 abbrev pub IsScoringFault : ScoreValues → Design → Outside → Outside → Fault → Type 0

@@ -10,5 +10,6 @@ pub mod Fault
 pub mod Status
 pub mod ScoreSources
 pub mod ScoreMachines
+pub mod Drawing
 pub mod SourceMessage
 pub mod PointsMessage

@@ -17,3 +17,7 @@ points_line (NoState name) = codes "covered: source: points 1 NoState " ++ name 
 points_line (SameState name) = codes "covered: source: points 2 SameState " ++ name ++ codes "\n"
 points_line TooManyPoints = codes "covered: source: points 3 TooManyPoints\n"
 points_line (TooManyStates name) = codes "covered: source: points 4 TooManyStates " ++ name ++ codes "\n"
+
+-- the line that is warned where a name of a machine that is to be drawn is at fault
+abbrev pub machine_line : List ℕ → List ℕ
+machine_line name = codes "covered: source: points 5 NoMachine " ++ name ++ codes "\n"

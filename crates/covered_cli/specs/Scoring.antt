@@ -12,7 +12,6 @@ use Rattle.database_commands.specs.Merging.{IsMergedIn}
 use Rattle.database_commands.specs.Reporting.{IsReportedIn}
 use Rattle.database_commands.specs.Tracing.{IsTracedIn}
 use Rattle.design_model.specs.Design.{path_of}
-use Rattle.design_model.specs.Points.{StateNames}
 use Rattle.design_model.specs.View.{design_view}
 use Rattle.design_model.specs.declared.design.Design.{Design}
 use Rattle.design_points.specs.Counted.{HasFewPoints}
@@ -36,7 +35,9 @@ use Rattle.vcd_reader.specs.declared.fault.DumpFault.TheVariants.{At}
 use Rattle.dump_score.specs.verdict_laws.Reasoned.{IsReasoned}
 use Rattle.dump_score.specs.verdict_laws.Sound.{IsSound}
 use Rattle.verilog_lexer.specs.Sources.{SourceText}
-use Rattle.covered_cli.specs.ScoreMachines.{habit_in, machines_in}
+use Rattle.state_machines.specs.Machines.{StateMachines}
+use Rattle.covered_cli.specs.Drawing.{IsNoMachineOf}
+use Rattle.covered_cli.specs.ScoreMachines.{AreMachinesOf, habit_in}
 use Rattle.covered_cli.specs.ScoreSources.{sources_in}
 use Rattle.covered_cli.specs.declared.contradiction.Contradiction.{Contradiction}
 use Rattle.covered_cli.specs.declared.dump_refusal.DumpRefusal.{DumpRefusal}
@@ -46,7 +47,9 @@ use Rattle.covered_cli.specs.declared.dump_refusal.DumpRefusal.TheVariants as re
 pub record HasDesign (score : ScoreValues) (before : Outside) (sources : List SourceText) (design : Design) : Type 0 where
   pub gathered : HasSources (sources_in score) before sources
   pub stands : StandFor sources (sources_in score).defines score.top design
-  pub few : HasFewPoints (design_view design) (machines_in score)
+  pub machines : StateMachines
+  pub are_machines : AreMachinesOf score (design_view design) machines
+  pub few : HasFewPoints (design_view design) machines
 
 -- the sources of the command have a design, and this is the fault of its points with the machines of the command
 pub record HasPointsFault (score : ScoreValues) (before : Outside) (fault : PointFault) : Type 0 where
@@ -54,7 +57,17 @@ pub record HasPointsFault (score : ScoreValues) (before : Outside) (fault : Poin
   pub design : Design
   pub gathered : HasSources (sources_in score) before sources
   pub stands : StandFor sources (sources_in score).defines score.top design
-  pub is : IsPointFault (design_view design) (machines_in score) fault
+  pub machines : StateMachines
+  pub are_machines : AreMachinesOf score (design_view design) machines
+  pub is : IsPointFault (design_view design) machines fault
+
+-- the sources of the command have a design, in which the first machine that cannot be drawn has this name at fault
+pub record HasNoMachine (score : ScoreValues) (before : Outside) (name : List ℕ) : Type 0 where
+  pub sources : List SourceText
+  pub design : Design
+  pub gathered : HasSources (sources_in score) before sources
+  pub stands : StandFor sources (sources_in score).defines score.top design
+  pub is : IsNoMachineOf (design_view design) score.drawings name
 
 -- the sources of the command have some design, with no more points than are scored
 abbrev pub HasSomeDesign : ScoreValues → Outside → Type 0
@@ -75,7 +88,7 @@ pub record IsAccepted (habit : Habit) (design : Design) (dump : Dump) (instance 
 
 -- The table lists each coverage point of the design with these state machines once. In every run of the design by this habit that shows the dump, each
 -- point marked hit is hit and each point marked missed is never hit. Each undetermined point names a signal and a time at which that signal is in doubt for its block.
-pub record IsScoreOf (habit : Habit) (design : Design) (machines : List StateNames) (dump : Dump) (names : List (List ℕ)) (instance : List ℕ) (db : Db) : Type 0 where
+pub record IsScoreOf (habit : Habit) (design : Design) (machines : StateMachines) (dump : Dump) (names : List (List ℕ)) (instance : List ℕ) (db : Db) : Type 0 where
   pub accepted : IsAccepted habit design dump instance
   pub table : IsTable db
   pub head : HasHead (design_view design) names db
@@ -84,7 +97,7 @@ pub record IsScoreOf (habit : Habit) (design : Design) (machines : List StateNam
   pub reasoned : IsReasoned (design_view design) habit (bound_dump design dump instance) machines db
 
 -- the text is that of a table of the design under the dump of this text
-pub record IsScoreText (habit : Habit) (design : Design) (machines : List StateNames) (names : List (List ℕ)) (dump_text instance text : List ℕ) : Type 0 where
+pub record IsScoreText (habit : Habit) (design : Design) (machines : StateMachines) (names : List (List ℕ)) (dump_text instance text : List ℕ) : Type 0 where
   pub dump : Dump
   pub db : Db
   pub is_dump : IsDump dump_text dump
@@ -132,7 +145,7 @@ pub record IsDoneIn (score : ScoreValues) (before after : Outside) : Type 0 wher
   pub text : List ℕ
   pub has_design : HasDesign score before sources design
   pub dump_is : IsFile before score.dump dump
-  pub scores : IsScoreText (habit_in score) design (machines_in score) (names_of sources) dump score.instance text
+  pub scores : IsScoreText (habit_in score) design has_design.machines (names_of sources) dump score.instance text
   pub written : Told (HasFile score.output text) before.files after.files
 
 -- what a command with these values asks for was done

@@ -22,6 +22,8 @@ pub(crate) enum Fault<'a> {
     Usage(UsageFault<'a>),
     /// No design was read from the sources.
     Source(SourceFault<'a>),
+    /// Of a machine that is to be drawn this name is at fault.
+    NoMachine { name: &'a str },
     /// The points of the design are not listed.
     Points(PointFault),
     /// The dump is refused.
@@ -43,6 +45,7 @@ impl Fault<'_> {
         match self {
             Fault::Usage(_) => Status::Usage,
             Fault::Source(fault) => source_status(fault),
+            Fault::NoMachine { .. } => Status::Source,
             Fault::Points(fault) => points_status(fault),
             Fault::Dump(_) => Status::Dump,
             Fault::Contradiction(_) => Status::Contradiction,

@@ -16,6 +16,7 @@
 
 mod contradiction;
 mod database_message;
+mod drawings;
 mod dump_refusal;
 mod fault;
 mod message;

@@ -6,6 +6,7 @@ ghost use Rattle.whole_files.specs.Call.{call_name};
 ghost use Rattle.whole_files.specs.Effects.{CountsUp};
 ghost use Rattle.covered_cli.specs.Effects.{WarnsLine};
 ghost use Rattle.covered_cli.specs.Fault.{IsPlain, line_of};
+ghost use Rattle.covered_cli.specs.PointsMessage.{machine_line};
 
 use crate::contradiction::warn_contradiction;
 use crate::database_message::warn_database;
@@ -32,10 +33,9 @@ pub(crate) fn warn_of<H: Host>(host: &mut H, fault: &Fault<'_>)
         Fault::Contradiction(found) => warn_contradiction(host, found),
         Fault::Databases(fault) => warn_database(host, fault),
         Fault::Points(fault) => warn_points(host, fault),
-        Fault::Usage(_) | Fault::Files { .. } | Fault::Memory => warn_texts(
-            host,
-            &pieces_of(fault),
-        ),
+        Fault::Usage(_) | Fault::NoMachine { .. } | Fault::Files { .. } | Fault::Memory => {
+            warn_texts(host, &pieces_of(fault))
+        }
     }
 }
 
@@ -50,6 +50,7 @@ fn pieces_of<'a>(fault: &Fault<'a>) -> [&'a str; 5]
         | Fault::Dump(_)
         | Fault::Contradiction(_)
         | Fault::Databases(_) => ["", "", "", "", ""],
+        Fault::NoMachine { name } => machine_pieces(name),
         Fault::Files { call, file } => file_pieces(*call, file),
         Fault::Memory => ["covered: memory\n", "", "", "", ""],
     }
@@ -61,6 +62,13 @@ fn usage_pieces<'a>(usage: &UsageFault<'a>) -> [&'a str; 5]
 {
     let [before, word, after] = usage.pieces();
     ["covered: usage: ", before, word, after, "\n"]
+}
+
+/// The pieces of the line of a machine that is not drawn in order.
+fn machine_pieces<'a>(name: &'a str) -> [&'a str; 5]
+    ensures { flat_map (λ piece. piece.now) result ≡ machine_line name.now }
+{
+    ["covered: source: points 5 NoMachine ", name, "\n", "", ""]
 }
 
 /// The pieces of the line of a call on a file in order.

@@ -5,7 +5,6 @@ ghost use Rattle.coverage_db.specs.Table.{IsTable};
 ghost use Rattle.coverage_db.specs.Text.{text_of};
 ghost use Rattle.design_model.specs.Design.{path_of};
 ghost use Rattle.design_model.specs.Lawful.{IsLawfulDesign};
-ghost use Rattle.design_model.specs.Points.{StateNames};
 ghost use Rattle.design_model.specs.View.{design_view};
 ghost use Rattle.design_points.specs.Counted.{AreAllPoints};
 ghost use Rattle.dump_score.specs.Faults.{IsScoreFault};
@@ -14,6 +13,8 @@ ghost use Rattle.dump_score.specs.instance_paths.Rooted.{IsRooted};
 ghost use Rattle.dump_score.specs.replay_core.Fits.{IsReplayable, signal_of};
 ghost use Rattle.source_design.specs.Reading.{IsReadIn};
 ghost use Rattle.written_designs.specs.table_laws.Written.{IsWritten, IsWrittenMachine};
+ghost use Rattle.state_machines.specs.Drawn.{AreDrawable};
+ghost use Rattle.state_machines.specs.Machines.{StateMachines};
 ghost use Rattle.whole_files.specs.Effects.{CountsUp, OnlyReads};
 ghost use Rattle.covered_cli.specs.Covered.{KeepsOthers};
 ghost use Rattle.covered_cli.specs.Fault.{IsDesignFault, IsPointsFault, StandsIn, IsEarly, IsWritingFault, IsScoringFault};
@@ -24,6 +25,7 @@ ghost use Rattle.covered_cli.specs.Scoring.{IsDoneIn};
 ghost use Rattle.covered_cli.specs.declared.fault.Fault.TheVariants as fault_row;
 
 use crate::contradiction::Contradiction;
+use crate::drawings::draw_machines;
 use crate::dump_refusal::DumpRefusal;
 use crate::fault::Fault;
 use crate::score_words::{defines_of, files_of, habit_when, states_of};
@@ -40,7 +42,7 @@ use std::alloc::Global;
 use vcd_reader::DumpFault;
 use whole_files::{FileFault, write_file};
 
-/// Scores a dump and writes the database: sources, design, points, dump, binding, verdicts, database, in this order.
+/// Scores a dump and writes the database: sources, design, machines, points, dump, binding, verdicts, database, in this order.
 /// The first refusal ends it.
 pub(crate) fn run_score<'a, H: Host>(
     alloc: Global,
@@ -56,7 +58,8 @@ pub(crate) fn run_score<'a, H: Host>(
     ensures counts { CountsUp (H.outside host.old) (H.outside host.new) }
 {
     let ReadDesign { design, sources } = design_of(alloc, host, words)?;
-    let states = states_of(alloc, words.machines)?;
+    let mut states = states_of(alloc, words.machines)?;
+    draw_machines(alloc, &design, words.drawings, &mut states)?;
     let points = points_of(alloc, &design, &states)?;
     let db = db_of(alloc, host, &design, &points, sources, words)?;
     let text = text_of(alloc, &db)?;
@@ -89,7 +92,8 @@ fn design_of<'a, H: Host>(
 
 /// The points of a design with these state machines.
 fn points_of<'a>(alloc: Global, design: &Design, states: &States) -> Result<Box<Points>, Fault<'a>>
-    requires { IsLawfulDesign (design_view design.now) }
+    requires lawful { IsLawfulDesign (design_view design.now) }
+    requires drawable { AreDrawable (design_view design.now) states.now }
     ensures points { IfOk result (λ points. AreAllPoints (design_view design.now) states.now points.value) }
     ensures fault { IfErr result (IsPointsFault design.now states.now) }
 {
@@ -124,11 +128,11 @@ fn db_of<'a, H: Host>(
     words: &ScoreWords<'a>,
 ) -> Result<Db, Fault<'a>>
     requires replayable { IsReplayable (design_view design.now) points.now }
-    requires points { (machines : List StateNames) × AreAllPoints (design_view design.now) machines points.now }
+    requires points { (machines : StateMachines) × AreAllPoints (design_view design.now) machines points.now }
     requires named { All IsWrittenMachine points.now.machines.items }
     requires written { IsWritten sources (design_view design.now) }
     requires rooted { IsRooted (design_view design.now) }
-    ensures scored { (machines : List StateNames) → AreAllPoints (design_view design.now) machines points.now
+    ensures scored { (machines : StateMachines) → AreAllPoints (design_view design.now) machines points.now
         → IfOk result (IsScoreOfFile words.now.dump.now (H.outside host.old) (habit_when words.now.late) design.now machines sources words.now.instance.now) }
     ensures fault { IfErr result (IsScoringFault (score_values words.now) design.now (H.outside host.old) (H.outside host.new)) }
     ensures effects { OnlyReads (H.outside host.old) (H.outside host.new) }

@@ -41,7 +41,8 @@ pub(crate) fn defines_of(alloc: Global, given: GivenDefines<'_>) -> Result<Defin
 
 /// The state machines that the words name. A later one of the same variable takes the place of the earlier.
 pub(crate) fn states_of(alloc: Global, given: GivenMachines<'_>) -> Result<States, NoMemory>
-    ensures { IfOk result (λ states. states ≡ with_machines (machines_of given.entry) []) }
+    ensures named { IfOk result (λ states. states.named ≡ with_machines (machines_of given.entry) []) }
+    ensures drawn { IfOk result (λ states. states.drawn ≡ []) }
 {
     let mut left = given;
     let mut states = States::new(alloc);

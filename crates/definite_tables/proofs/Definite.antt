@@ -6,7 +6,8 @@ use Rattle.coverage_db.specs.declared.verdict.DbVerdict.TheVariants.{Hit, Missed
 use Rattle.design_model.proofs.Definite.{bound_point_law, definiteness_law}
 use Rattle.design_model.specs.Design.{Design}
 use Rattle.design_model.specs.Doubt.{IsInDoubt}
-use Rattle.design_model.specs.Points.{IsPoint, StateNames}
+use Rattle.verdict_laws.specs.table_laws.point_table.cover_points.design_machines.state_machines.Drawn.{IsPointWith}
+use Rattle.verdict_laws.specs.table_laws.point_table.cover_points.design_machines.state_machines.Machines.{StateMachines}
 use Rattle.design_model.specs.Shows.{BoundDump}
 use Rattle.design_model.specs.declared.point.Point.{Point}
 use Rattle.event_machine.specs.Habit.{Habit}
@@ -19,7 +20,7 @@ module _ (d : Design) (h : Habit) (dump : BoundDump) (x : Point) (certain : (t s
   definite_verdict Missed reasoned = tt
   definite_verdict (Undetermined time path) reasoned = certain time reasoned.0.thing reasoned.0.in_doubt
 
-  definite_rows : (ms : List StateNames) (db : Db) → IsReasoned d h dump ms db → IsPoint d ms x → HasDefiniteRows d db x
+  definite_rows : (ms : StateMachines) (db : Db) → IsReasoned d h dump ms db → IsPointWith d ms x → HasDefiniteRows d db x
   definite_rows ms db reasoned is_point k default within named =
       definite_verdict (get_or db.points k default).verdict (reasoned k default within x is_point named).reason
 

@@ -7,7 +7,9 @@ use Rattle.design_model.specs.Clear.{IsSignal}
 use Rattle.design_model.specs.Design.{Design}
 use Rattle.design_model.specs.Doubt.{IsPointOn}
 use Rattle.design_model.specs.Laws.{IsDefinite, IsLineOrLogic}
-use Rattle.design_model.specs.Points.{IsBlock, IsPoint, StateNames}
+use Rattle.design_model.specs.Points.{IsBlock}
+use Rattle.verdict_laws.specs.table_laws.point_table.cover_points.design_machines.state_machines.Drawn.{IsPointWith}
+use Rattle.verdict_laws.specs.table_laws.point_table.cover_points.design_machines.state_machines.Machines.{StateMachines}
 use Rattle.design_model.specs.Shows.{BindsSignals, BoundDump}
 use Rattle.design_model.specs.declared.point.Point.{Point}
 use Rattle.event_machine.specs.Habit.{Habit}
@@ -27,11 +29,11 @@ HasDefiniteRows d db x = All (λ row. IsAddressOf d db.instances x row.address �
 -- block mentions and of that only its trigger may be early.
 abbrev pub DefiniteBlocksLaw : Type 0
 DefiniteBlocksLaw =
-    (d : Design) (h : Habit) (dump : BoundDump) (ms : List StateNames) (db : Db) (p : ℕ) (x : Point) → BindsSignals d dump → IsReasoned d h dump ms db
-    → IsDefinite d h dump p → IsPoint d ms x → IsLineOrLogic x → IsBlock d x p → HasDefiniteRows d db x
+    (d : Design) (h : Habit) (dump : BoundDump) (ms : StateMachines) (db : Db) (p : ℕ) (x : Point) → BindsSignals d dump → IsReasoned d h dump ms db
+    → IsDefinite d h dump p → IsPointWith d ms x → IsLineOrLogic x → IsBlock d x p → HasDefiniteRows d db x
 
 -- Definite-signals law: in a reasoned table each toggle, state and arc of a signal that the dump has is hit or missed.
 abbrev pub DefiniteSignalsLaw : Type 0
 DefiniteSignalsLaw =
-    (d : Design) (h : Habit) (dump : BoundDump) (ms : List StateNames) (db : Db) (s : ℕ) (x : Point) → IsReasoned d h dump ms db → IsPoint d ms x
+    (d : Design) (h : Habit) (dump : BoundDump) (ms : StateMachines) (db : Db) (s : ℕ) (x : Point) → IsReasoned d h dump ms db → IsPointWith d ms x
     → IsPointOn x s → IsSignal d s → dump.bound s ≡ true → HasDefiniteRows d db x

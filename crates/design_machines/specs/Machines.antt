@@ -15,7 +15,7 @@ name_at names k = slice_index_or names k []
 
 -- what a list of machines gives past its end
 abbrev pub no_machine : Machine
-no_machine = record { instance = 0; variable = []; signal = 0; names = []; values = [] }
+no_machine = record { instance = 0; variable = []; signal = 0; names = []; values = []; leaving = 0 }
 
 -- the machine at a place
 abbrev pub machine_at : List Machine → ℕ → Machine
@@ -41,6 +41,7 @@ pub record IsMachineOf (d : Design) (m : StateNames) (x : Machine) : Type 0 wher
   pub names : x.names ≡ m.names
   pub values : AllZip (IsStateValue d x.instance x.signal) m.names x.values
   pub apart : AreApart x.values
+  pub leaving : x.leaving ≡ length x.names
 
 -- the list has machine m in each instance of its module with a number below n
 pub record AreMachinesBelow (d : Design) (m : StateNames) (n : ℕ) (xs : List Machine) : Type 0 where

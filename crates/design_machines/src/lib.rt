@@ -1,6 +1,7 @@
-//! The state machines in the instances of a design, or the first fault in those that are named.
+//! The state machines in the instances of a design, named and drawn, or the first fault in those that are named.
 #![tactic(auto)]
 
+mod drawn;
 mod fault;
 mod found;
 mod machine;
@@ -10,4 +11,4 @@ pub use fault::StateFault;
 pub use found::MOST_STATES;
 pub use machine::Machine;
 pub use state_machines::States;
-pub use table::design_machines;
+pub use table::{all_machines, design_machines};

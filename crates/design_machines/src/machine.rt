@@ -1,6 +1,6 @@
 //! A state machine in an instance.
 
-ghost use Rattle.std.specs.Prelude.{◌≡◌, ◌⊎◌, Err, IfOk};
+ghost use Rattle.std.specs.Prelude.{◌≡◌, ◌⊎◌, Err, IfOk, length};
 ghost use Rattle.std.specs.List.{AllZip};
 ghost use Rattle.state_machines.specs.design_model.Lawful.{IsLawfulDesign};
 ghost use Rattle.state_machines.specs.design_model.Points.{IsInstanceOf, IsStateValue};
@@ -32,6 +32,8 @@ pub struct Machine {
     pub names: Sequence<Name>,
     /// The values of its states in the width of the signal, in the order of their names. No two are the same.
     pub values: Sequence<Four>,
+    /// How many of its states, from the first on, an arc leaves. It leads to each other state.
+    pub leaving: usize,
 }
 
 /// The machine in an instance.
@@ -83,7 +85,7 @@ fn whole_machine(
     named: &NamedMachine<'_>,
     found: InstanceMachine,
 ) -> Result<Machine, NoMemory>
-    ensures { IfOk result (λ machine. (machine.instance ≡ instance) × (machine.variable ≡ named.now.variable.now) × (machine.signal ≡ found.signal) × (machine.names ≡ named.now.names.now) × (machine.values ≡ found.values.items)) }
+    ensures { IfOk result (λ machine. (machine.instance ≡ instance) × (machine.variable ≡ named.now.variable.now) × (machine.signal ≡ found.signal) × (machine.names ≡ named.now.names.now) × (machine.values ≡ found.values.items) × (machine.leaving ≡ length machine.names)) }
 {
     Ok(Machine {
         instance,
@@ -91,6 +93,7 @@ fn whole_machine(
         signal: found.signal,
         names: Sequence::from_vec(copies_of(alloc, named.names)?),
         values: Sequence::from_vec(found.values),
+        leaving: named.names.len(),
     })
 }
 

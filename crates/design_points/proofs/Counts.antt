@@ -7,7 +7,11 @@ use Rattle.cover_points.specs.declared.listing.Points.{Points}
 use Rattle.cover_points.proofs.Apart.{points_once}
 use Rattle.cover_points.proofs.Members.{in_contains}
 use Rattle.design_model.specs.Design.{AreDistinct, Design, In}
-use Rattle.design_model.specs.Points.{StateNames}
+use Rattle.design_model.specs.Points.{IsPoint}
+use Rattle.design_model.specs.declared.point.Point.{Point}
+use Rattle.design_model.specs.declared.point.Point.TheVariants as point
+use Rattle.cover_points.specs.design_machines.state_machines.Drawn.{AreAlike, IsPointWith}
+use Rattle.cover_points.specs.design_machines.state_machines.Machines.{StateMachines}
 use Rattle.design_points.specs.Counted.{HasFewPoints, HasManyPoints}
 
 -- a list without one of its items
@@ -50,9 +54,20 @@ distinct d (x ∷ xs) once = (
   distinct d xs (λ j k l m e. let same : suc j ≡ suc k = once (suc j) (suc k) (omega (arith, l)) (omega (arith, m)) e in omega (arith, same)),
 )
 
--- a list of the points of a design is not longer than another one
-pub no_longer : (d : Design) (ms : List StateNames) (ps qs : Points) → IsPointList d ms ps → IsPointList d ms qs → length (points_of ps) ≤ length (points_of qs)
-no_longer d ms ps qs a b = fits (points_of ps) (points_of qs) (distinct no_point (points_of ps) (points_once d ms ps a)) (λ x i. (b.members x).1 ((a.members x).0 i))
+-- the points with machines of which the same is named and drawn are the same
+alike_point : (d : Design) (ms ns : StateMachines) → AreAlike ms ns → (x : Point) → IsPointWith d ns x → IsPointWith d ms x
+alike_point d ms ns alike (point.Line p n at w) h = h
+alike_point d ms ns alike (point.Logic p n at op c) h = h
+alike_point d ms ns alike (point.Toggle s i rise) h = h
+alike_point d ms ns alike (point.State i name s state x) (inl h) = inl (subst (λ named. IsPoint d named (point.State i name s state x)) (sym alike.named) h)
+alike_point d ms ns alike (point.State i name s state x) (inr h) = inr (h.0, (alike.drawn h.0).1 h.1, h.2, h.3, h.4, h.5)
+alike_point d ms ns alike (point.Arc i name s from to x y) (inl h) = inl (subst (λ named. IsPoint d named (point.Arc i name s from to x y)) (sym alike.named) h)
+alike_point d ms ns alike (point.Arc i name s from to x y) (inr h) = inr (h.0, (alike.drawn h.0).1 h.1, h.2, h.3, h.4, h.5, h.6, h.7, h.8)
+alike_point d ms ns alike (point.Word m i write) h = h
 
-pub few_or_many : (d : Design) (ms : List StateNames) → HasFewPoints d ms → HasManyPoints d ms → ⊥
-few_or_many d ms (ps, a, few) (qs, b, many) = omega (arith, few, many, no_longer d ms qs ps b a)
+-- a list of the points of a design is not longer than another one
+pub no_longer : (d : Design) (ms ns : StateMachines) → AreAlike ms ns → (ps qs : Points) → IsPointList d ms ps → IsPointList d ns qs → length (points_of qs) ≤ length (points_of ps)
+no_longer d ms ns alike ps qs a b = fits (points_of qs) (points_of ps) (distinct no_point (points_of qs) (points_once d ns qs b)) (λ x i. (a.members x).1 (alike_point d ms ns alike x ((b.members x).0 i)))
+
+pub few_or_many : (d : Design) (ms ns : StateMachines) → AreAlike ms ns → HasFewPoints d ms → HasManyPoints d ns → ⊥
+few_or_many d ms ns alike (ps, a, few) (qs, b, many) = omega (arith, few, many, no_longer d ms ns alike ps qs a b)

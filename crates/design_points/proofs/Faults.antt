@@ -1,5 +1,5 @@
 -- Where the points of a design are listed, nothing is wrong with its machines.
-use Rattle.std.proofs.Common.{◌≡◌, ℕ, zero, suc, ◌<◌, List, [], ◌∷◌, length, get_or, inl, inr, refl, subst, arith}
+use Rattle.std.proofs.Common.{◌≡◌, ℕ, zero, suc, ◌<◌, List, [], ◌∷◌, length, get_or, inl, inr, refl, sym, subst, arith}
 use Rattle.std.specs.List.{AllZip}
 use Rattle.cover_points.specs.Faults.{IsPointFault}
 use Rattle.cover_points.specs.Listed.{IsPointList}
@@ -12,12 +12,15 @@ use Rattle.cover_points.specs.design_machines.Faults.{IsFaultIn, IsFaultOf, IsSa
 use Rattle.cover_points.specs.design_machines.Machines.{AreMachines}
 use Rattle.cover_points.specs.design_machines.declared.fault.StateFault.{StateFault}
 use Rattle.cover_points.specs.design_machines.declared.fault.StateFault.TheVariants.{NoMemory, NoState, SameState, TooManyStates}
+use Rattle.cover_points.specs.design_machines.state_machines.Drawn.{AreAlike}
 use Rattle.cover_points.specs.design_machines.state_machines.Machines.{no_machine}
 use Rattle.cover_points.specs.design_machines.state_machines.Same.{HasBefore}
 use Rattle.cover_points.specs.design_machines.state_machines.Values.{IsNamedSignal}
 use Rattle.design_model.specs.Design.{Design, In}
 use Rattle.design_model.specs.Lawful.{IsLawfulDesign}
 use Rattle.design_model.specs.Points.{IsInstanceOf, IsStateValue, StateNames}
+use Rattle.cover_points.specs.design_machines.state_machines.Drawn.{AreAlike}
+use Rattle.cover_points.specs.design_machines.state_machines.Machines.{StateMachines}
 use Rattle.design_model.specs.four_state.Vector.{Vector}
 use Rattle.design_points.specs.Counted.{HasFewPoints}
 use Rattle.design_points.proofs.Counts.{few_or_many}
@@ -38,11 +41,11 @@ one_zip R one (x ∷ xs) [] zs a b = absurd a
 one_zip R one (x ∷ xs) (y ∷ ys) [] a b = absurd b
 one_zip R one (x ∷ xs) (y ∷ ys) (z ∷ zs) a b = let e = one x y z a.0 b.0 in let f = one_zip R one xs ys zs a.1 b.1 in cc
 
-module _ (d : Design) (lawful : IsLawfulDesign d) (ms : List StateNames) (ps : Points) (listed : IsPointList d ms ps) where
-  are : AreMachines d ms ps.machines.items
-  are = listed.machines
+module _ (d : Design) (lawful : IsLawfulDesign d) (ms : StateMachines) (ps : Points) (listed : IsPointList d ms ps) where
+  are : AreMachines d ms.named listed.machines.named
+  are = listed.machines.are_named
 
-  module _ (m : StateNames) (at : In m ms) (i : ℕ) (is : IsInstanceOf d i m.of_module) where
+  module _ (m : StateNames) (at : In m ms.named) (i : ℕ) (is : IsInstanceOf d i m.of_module) where
     -- the machine has a signal in the instance
     signal_is : (s : ℕ) × IsNamedSignal d i m.variable s
     signal_is = let x = are.all m i at is in (x.0.signal, subst (λ j. IsNamedSignal d j m.variable x.0.signal) x.3 x.2.signal)
@@ -71,20 +74,20 @@ module _ (d : Design) (lawful : IsLawfulDesign d) (ms : List StateNames) (ps : P
     no_fault_in (SameState name) h = apart name h
     no_fault_in (TooManyStates name) h = h
 
-  no_fault_of : (m : StateNames) → In m ms → (f : StateFault) → IsFaultOf d m f → ⊥
+  no_fault_of : (m : StateNames) → In m ms.named → (f : StateFault) → IsFaultOf d m f → ⊥
   no_fault_of m at NoMemory (counted, (i, is, fault, xs, below)) = no_fault_in m at i is NoMemory fault
   no_fault_of m at (NoState name) (counted, inl (none, e)) = let p = are.placed m at in none p.0 p.1
   no_fault_of m at (NoState name) (counted, inr (i, is, fault, xs, below)) = no_fault_in m at i is (NoState name) fault
   no_fault_of m at (SameState name) (counted, (i, is, fault, xs, below)) = no_fault_in m at i is (SameState name) fault
   no_fault_of m at (TooManyStates name) (not_counted, e) = not_counted (are.counted m at)
 
-  pub no_state_fault : (f : StateFault) → IsStateFault d ms f → ⊥
-  no_state_fault f (k, l, fault, xs, before) = no_fault_of (get_or ms k no_machine) (in_at ms k no_machine l) f fault
+  pub no_state_fault : (f : StateFault) → IsStateFault d ms.named f → ⊥
+  no_state_fault f (k, l, fault, xs, before) = no_fault_of (get_or ms.named k no_machine) (in_at ms.named k no_machine l) f fault
 
 -- where the points are listed and not too many, their fault is want of memory
-pub no_points_fault : (d : Design) (ms : List StateNames) (f : PointFault) → IsLawfulDesign d → HasFewPoints d ms → IsPointFault d ms f → f ≡ fault.NoMemory
-no_points_fault d ms fault.NoMemory lawful few is = refl
-no_points_fault d ms (fault.NoState name) lawful few is = absurd (no_state_fault d lawful ms few.0 few.1 (NoState name) is)
-no_points_fault d ms (fault.SameState name) lawful few is = absurd (no_state_fault d lawful ms few.0 few.1 (SameState name) is)
-no_points_fault d ms (fault.TooManyStates name) lawful few is = absurd (no_state_fault d lawful ms few.0 few.1 (TooManyStates name) is)
-no_points_fault d ms fault.TooManyPoints lawful few is = absurd (few_or_many d ms few is)
+pub no_points_fault : (d : Design) (ms ns : StateMachines) (f : PointFault) → IsLawfulDesign d → AreAlike ms ns → HasFewPoints d ms → IsPointFault d ns f → f ≡ fault.NoMemory
+no_points_fault d ms ns fault.NoMemory lawful alike few is = refl
+no_points_fault d ms ns (fault.NoState name) lawful alike few is = absurd (no_state_fault d lawful ms few.0 few.1 (NoState name) (subst (λ named. IsStateFault d named (NoState name)) (sym alike.named) is))
+no_points_fault d ms ns (fault.SameState name) lawful alike few is = absurd (no_state_fault d lawful ms few.0 few.1 (SameState name) (subst (λ named. IsStateFault d named (SameState name)) (sym alike.named) is))
+no_points_fault d ms ns (fault.TooManyStates name) lawful alike few is = absurd (no_state_fault d lawful ms few.0 few.1 (TooManyStates name) (subst (λ named. IsStateFault d named (TooManyStates name)) (sym alike.named) is))
+no_points_fault d ms ns fault.TooManyPoints lawful alike few is = absurd (few_or_many d ms ns alike few is)

@@ -5,18 +5,18 @@ use Rattle.cover_points.specs.Visits.{AreApart, AreOnce, ArePlaced}
 use Rattle.cover_points.specs.declared.listing.Points.{Points}
 use Rattle.cover_points.specs.declared.listing.TheConstants.{MOST_POINTS}
 use Rattle.design_model.specs.Design.{Design}
-use Rattle.design_model.specs.Points.{StateNames}
+use Rattle.cover_points.specs.design_machines.state_machines.Machines.{StateMachines}
 
 -- the list of the design's points is not longer than the limit
-abbrev pub HasFewPoints : Design → List StateNames → Type 0
+abbrev pub HasFewPoints : Design → StateMachines → Type 0
 HasFewPoints d ms = (ps : Points) × IsPointList d ms ps × (length (points_of ps) ≤ MOST_POINTS)
 
 -- it is longer
-abbrev pub HasManyPoints : Design → List StateNames → Type 0
+abbrev pub HasManyPoints : Design → StateMachines → Type 0
 HasManyPoints d ms = (ps : Points) × IsPointList d ms ps × (MOST_POINTS < length (points_of ps))
 
 -- all points of the design, of which marks can be made
-pub record AreAllPoints (d : Design) (ms : List StateNames) (ps : Points) : Type 0 where
+pub record AreAllPoints (d : Design) (ms : StateMachines) (ps : Points) : Type 0 where
   pub listed : IsPointList d ms ps
   pub apart : AreApart ps
   pub once : AreOnce ps

@@ -4,15 +4,16 @@ ghost use Rattle.cover_points.specs.declared.fault.PointFault.{PointFault};
 ghost use Rattle.cover_points.specs.declared.fault.PointFault.TheVariants.{NoMemory};
 ghost use Rattle.design_model.specs.Design.{Design};
 ghost use Rattle.design_model.specs.Lawful.{IsLawfulDesign};
-ghost use Rattle.design_model.specs.Points.{StateNames};
+ghost use Rattle.cover_points.specs.design_machines.state_machines.Drawn.{AreAlike};
+ghost use Rattle.cover_points.specs.design_machines.state_machines.Machines.{StateMachines};
 ghost use Rattle.design_points.specs.Counted.{HasFewPoints, HasManyPoints};
 
-/// No design has few points and many, with the same state machines.
+/// No design has few points and many, with the same state machines, in whatever order what is drawn of them stands.
 pub fn count_law()
-    ensures { (d : Design) (ms : List StateNames) → HasFewPoints d ms → HasManyPoints d ms → ⊥ }
+    ensures { (d : Design) (ms ns : StateMachines) → AreAlike ms ns → HasFewPoints d ms → HasManyPoints d ns → ⊥ }
 {}
 
 /// Where the points of a design are listed and are not too many, their fault is want of memory.
 pub fn fault_law()
-    ensures { (d : Design) (ms : List StateNames) (f : PointFault) → IsLawfulDesign d → HasFewPoints d ms → IsPointFault d ms f → f ≡ NoMemory }
+    ensures { (d : Design) (ms ns : StateMachines) (f : PointFault) → IsLawfulDesign d → AreAlike ms ns → HasFewPoints d ms → IsPointFault d ns f → f ≡ NoMemory }
 {}

@@ -3,6 +3,7 @@ ghost use Rattle.cover_points.specs.Faults.{IsPointFault};
 ghost use Rattle.cover_points.specs.declared.fault.PointFault.{PointFault as TheFault};
 ghost use Rattle.design_model.specs.Lawful.{IsLawfulDesign};
 ghost use Rattle.design_model.specs.View.{design_view};
+ghost use Rattle.state_machines.specs.Drawn.{AreDrawable};
 ghost use Rattle.design_points.specs.Counted.{AreAllPoints};
 
 use cov_host::NoMemory;
@@ -17,7 +18,8 @@ pub fn list_points(
     design: &Design,
     states: &States,
 ) -> Result<Box<Points>, PointFault>
-    requires { IsLawfulDesign (design_view design.now) }
+    requires lawful { IsLawfulDesign (design_view design.now) }
+    requires drawable { AreDrawable (design_view design.now) states.now }
     ensures points { IfOk result (λ points. AreAllPoints (design_view design.now) states.now points.value) }
     ensures fault { (fault : TheFault) → result ≡ Err fault → IsPointFault (design_view design.now) states.now fault }
 {

@@ -7,7 +7,7 @@ use Rattle.dump_replay.specs.cover_marks.declared.marks.Marks.{Marks}
 use Rattle.cover_points.specs.declared.listing.Points.{Points}
 use Rattle.coverage_db.specs.declared.db.Db.{Db}
 use Rattle.design_model.specs.Design.{In}
-use Rattle.design_model.specs.Points.{StateNames}
+use Rattle.cover_points.specs.design_machines.state_machines.Machines.{StateMachines}
 use Rattle.design_model.specs.View.{design_view}
 use Rattle.design_model.specs.declared.design.Design.{Design}
 use Rattle.dump_replay.specs.Followed.{AreFinalMarks}
@@ -56,7 +56,7 @@ module _ (replay : DumpReplay) (habit : Habit) (design : Design) (points : Point
     first_values = λ two s. scored.followed.taken.based (subst (λ n. 2 ≤ n) (sym (length-map (steps_of scored.b.items) (λ step. step.time)) ∙ ap length (times_are scored.b.items)) two) s;
   }
 
-  pub scored_file : (name : List ℕ) (before : Outside) (machines : List StateNames) (sources : List (List ℕ)) (marks : Marks) (db : Db) → IsFile before name text → AreFinalMarks (design_view design) habit (dump_of (codes_of design vars instance) (steps_of scored.b.items)) points marks
+  pub scored_file : (name : List ℕ) (before : Outside) (machines : StateMachines) (sources : List (List ℕ)) (marks : Marks) (db : Db) → IsFile before name text → AreFinalMarks (design_view design) habit (dump_of (codes_of design vars instance) (steps_of scored.b.items)) points marks
       → IsScoreTable (design_view design) habit (bound_dump design said instance) machines sources db → IsScoreOfFile name before habit design machines sources instance db
   scored_file name before machines sources marks db file final table = record {
     text = text;

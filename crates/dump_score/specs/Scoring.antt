@@ -5,7 +5,7 @@ use Rattle.cover_points.specs.declared.listing.Points.{Points}
 use Rattle.coverage_db.specs.declared.db.Db.{Db}
 use Rattle.design_model.specs.Clear.{IsForced}
 use Rattle.design_model.specs.Design.{Design as Tree, signal_bits}
-use Rattle.design_model.specs.Points.{StateNames}
+use Rattle.cover_points.specs.design_machines.state_machines.Machines.{StateMachines}
 use Rattle.design_model.specs.Shows.{BoundDump}
 use Rattle.design_model.specs.View.{design_view}
 use Rattle.design_model.specs.declared.design.Design.{Design}
@@ -111,13 +111,13 @@ abbrev pub AreForced : Habit → Tree → BoundDump → Type 0
 AreForced h d dump = (t s : ℕ) (bits : List Bit) → IsForced d h dump t s bits → signal_bits d (dump.values t) s ≡ bits
 
 -- the design is bound to the dump, no forced value differs from the dump's, and the table is that of the design with these state machines under the dump
-pub record IsScoreUnder (habit : Habit) (design : Design) (machines : List StateNames) (dump : Dump) (sources : List (List ℕ)) (instance : List ℕ) (db : Db) : Type 0 where
+pub record IsScoreUnder (habit : Habit) (design : Design) (machines : StateMachines) (dump : Dump) (sources : List (List ℕ)) (instance : List ℕ) (db : Db) : Type 0 where
   pub bound : IsBound design dump instance
   pub forced : AreForced habit (design_view design) (bound_dump design dump instance)
   pub table : IsScoreTable (design_view design) habit (bound_dump design dump instance) machines sources db
 
 -- so it is under the dump in the file
-pub record IsScoreOfFile (name : List ℕ) (before : Outside) (habit : Habit) (design : Design) (machines : List StateNames) (sources : List (List ℕ)) (instance : List ℕ) (db : Db) : Type 0 where
+pub record IsScoreOfFile (name : List ℕ) (before : Outside) (habit : Habit) (design : Design) (machines : StateMachines) (sources : List (List ℕ)) (instance : List ℕ) (db : Db) : Type 0 where
   pub text : List ℕ
   pub dump : Dump
   pub is : IsFile before name text

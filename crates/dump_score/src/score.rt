@@ -1,5 +1,5 @@
 ghost use Rattle.std.specs.Prelude.{◌<◌, All, IfErr, IfOk, List, length};
-ghost use Rattle.design_model.specs.Points.{StateNames};
+ghost use Rattle.cover_points.specs.design_machines.state_machines.Machines.{StateMachines};
 ghost use Rattle.design_model.specs.View.{design_view};
 ghost use Rattle.dump_replay.specs.design_points.Counted.{AreAllPoints};
 ghost use Rattle.dump_replay.specs.instance_paths.Rooted.{IsRooted};
@@ -38,11 +38,11 @@ pub fn score_dump<H: Host>(
     habit: Habit,
 ) -> Result<Db, ScoreFault>
     requires replayable { IsReplayable (design_view design.now) points.now }
-    requires points { (machines : List StateNames) × AreAllPoints (design_view design.now) machines points.now }
+    requires points { (machines : StateMachines) × AreAllPoints (design_view design.now) machines points.now }
     requires named { All IsWrittenMachine points.now.machines.items }
     requires written { IsWritten sources (design_view design.now) }
     requires rooted { IsRooted (design_view design.now) }
-    ensures scored { (machines : List StateNames) → AreAllPoints (design_view design.now) machines points.now → IfOk result (IsScoreOfFile name.now (H.outside host.old) (habit_of habit) design.now machines sources instance.now) }
+    ensures scored { (machines : StateMachines) → AreAllPoints (design_view design.now) machines points.now → IfOk result (IsScoreOfFile name.now (H.outside host.old) (habit_of habit) design.now machines sources instance.now) }
     ensures fault { IfErr result (IsScoreFault name.now (H.outside host.old) (H.outside host.new) (habit_of habit) design.now instance.now) }
     ensures effects { OnlyReads (H.outside host.old) (H.outside host.new) }
 {
@@ -73,12 +73,12 @@ fn score_file<H: Host>(
     habit: Habit,
 ) -> Result<Db, ScoreFault>
     requires replayable { IsReplayable (design_view design.now) points.now }
-    requires points { (machines : List StateNames) × AreAllPoints (design_view design.now) machines points.now }
+    requires points { (machines : StateMachines) × AreAllPoints (design_view design.now) machines points.now }
     requires named { All IsWrittenMachine points.now.machines.items }
     requires written { IsWritten sources (design_view design.now) }
     requires rooted { IsRooted (design_view design.now) }
     requires piece { 0 < length piece.old }
-    ensures scored { (machines : List StateNames) → AreAllPoints (design_view design.now) machines points.now → IfOk result (IsScoreOfFile name.now (H.outside host.old) (habit_of habit) design.now machines sources instance.now) }
+    ensures scored { (machines : StateMachines) → AreAllPoints (design_view design.now) machines points.now → IfOk result (IsScoreOfFile name.now (H.outside host.old) (habit_of habit) design.now machines sources instance.now) }
     ensures fault { IfErr result (IsScoreFault name.now (H.outside host.old) (H.outside host.new) (habit_of habit) design.now instance.now) }
     ensures effects { OnlyReads (H.outside host.old) (H.outside host.new) }
 {

@@ -1,5 +1,5 @@
 -- Of a design of inputs, a table that is sound and reasoned is exact.
-use Rattle.std.proofs.Common.{◌≡◌, ◌↔◌, ℕ, ◌<◌, ◌&&◌, Bool, true, false, nat_lt, [], length, get_or, refl, sym, ap, subst, ◌∙◌, arith}
+use Rattle.std.proofs.Common.{◌≡◌, ◌↔◌, ℕ, ◌<◌, ◌&&◌, Bool, true, false, nat_lt, inl, inr, length, get_or, refl, sym, ap, subst, ◌∙◌, arith}
 use Rattle.std.proofs.lemmas.Bool.{false≢true, lt-ltb}
 use Rattle.std.proofs.lemmas.Bool.Decides.{nat_tests}
 use Rattle.std.proofs.lemmas.List.{get_or-map, length-map}
@@ -13,7 +13,9 @@ use Rattle.design_model.proofs.Toggles.{toggle_law}
 use Rattle.design_model.specs.Design.{Design, In, cell, is_memory, no_signal, signal_at}
 use Rattle.design_model.specs.Lawful.{IsLawfulDesign}
 use Rattle.design_model.specs.Numbered.{counted_terms, line_at, lines_of}
-use Rattle.design_model.specs.Points.{IsHit, IsPoint, toggle_cell}
+use Rattle.design_model.specs.Points.{IsHit, toggle_cell}
+use Rattle.verdict_laws.specs.table_laws.point_table.cover_points.design_machines.state_machines.Drawn.{IsPointWith}
+use Rattle.verdict_laws.specs.table_laws.point_table.cover_points.design_machines.state_machines.Machines.{no_machines}
 use Rattle.design_model.specs.Run.{Run}
 use Rattle.design_model.specs.Shows.{BindsSignals, BoundDump, IsContradicted, IsDumpOf}
 use Rattle.design_model.specs.declared.point.Point.{Point}
@@ -58,15 +60,17 @@ module _ (d : Design) (lawful : IsLawfulDesign d) (inputs : HasInputsAlone d) (d
   decides r shown s i rise (Undetermined time path) within says reasoned =
       bound_point_law d Free dump (toggle_point s i rise) s refl within (input_bound s within) time reasoned.0.thing reasoned.0.in_doubt
 
-  exact_point : (r : Run) → IsShownBy d Free dump r → (x : Point) (verdict : DbVerdict) → IsPoint d [] x → Says verdict (IsHit d dump r x) → IsReasonedVerdict d Free dump x verdict → IsExactVerdict d dump x verdict
+  exact_point : (r : Run) → IsShownBy d Free dump r → (x : Point) (verdict : DbVerdict) → IsPointWith d no_machines x → Says verdict (IsHit d dump r x) → IsReasonedVerdict d Free dump x verdict → IsExactVerdict d dump x verdict
   exact_point r shown (line_point p n at w) verdict is_point says reasoned = absurd (subst (λ q. In (line_at n at w) (lines_of q)) (no_process_at d inputs.processes p) is_point)
   exact_point r shown (logic_point p n at op c) verdict is_point says reasoned = absurd (subst (λ q. In is_point.0 (counted_terms q)) (no_process_at d inputs.processes p) is_point.1)
   exact_point r shown (toggle_point s i rise) verdict is_point says reasoned = decides r shown s i rise verdict is_point.0 says reasoned
-  exact_point r shown (state_point i name s state x) verdict is_point says reasoned = absurd is_point.1
-  exact_point r shown (arc_point i name s from to x y) verdict is_point says reasoned = absurd is_point.1
+  exact_point r shown (state_point i name s state x) verdict (inl is_point) says reasoned = absurd is_point.1
+  exact_point r shown (state_point i name s state x) verdict (inr is_point) says reasoned = absurd is_point.1
+  exact_point r shown (arc_point i name s from to x y) verdict (inl is_point) says reasoned = absurd is_point.1
+  exact_point r shown (arc_point i name s from to x y) verdict (inr is_point) says reasoned = absurd is_point.1
   exact_point r shown (word_point m i write) verdict is_point says reasoned = absurd (false≢true (sym (no_memory d inputs.memories m) ∙ is_point.0))
 
-  pub exact_table : (db : Db) → ListsPoints d [] db → IsSound d Free dump [] db → IsReasoned d Free dump [] db → IsExact d dump db
+  pub exact_table : (db : Db) → ListsPoints d no_machines db → IsSound d Free dump no_machines db → IsReasoned d Free dump no_machines db → IsExact d dump db
   exact_table db listed sound reasoned k default within =
       let some = some_shown d inputs dump is.signals in
       let row : DbPoint = get_or db.points k default in

@@ -6,7 +6,8 @@ use Rattle.std.specs.Prelude.{codes}
 use Rattle.coverage_db.specs.declared.verdict.DbVerdict.{DbVerdict}
 use Rattle.coverage_db.specs.declared.verdict.DbVerdict.TheVariants.{Hit, Missed, Undetermined}
 use Rattle.design_model.specs.Design.{cell}
-use Rattle.design_model.specs.Points.{IsPoint}
+use Rattle.verdict_laws.specs.table_laws.point_table.cover_points.design_machines.state_machines.Drawn.{IsPointWith}
+use Rattle.verdict_laws.specs.table_laws.point_table.cover_points.design_machines.state_machines.Machines.{no_machines}
 use Rattle.design_model.specs.declared.point.Point.{Point}
 use Rattle.design_model.specs.declared.point.Point.TheVariants.{Line as line_point, Logic as logic_point, Toggle as toggle_point, State as state_point, Arc as arc_point, Word as word_point}
 use Rattle.four_state.specs.declared.bit.Bit.TheVariants.{One, Zero}
@@ -68,14 +69,14 @@ worked_toggles = record {
 abbrev clk_point : Point
 clk_point = toggle_point 0 0 true
 
-is_clk_point : IsPoint nested_tree [] clk_point
+is_clk_point : IsPointWith nested_tree no_machines clk_point
 is_clk_point = (omega arith, (omega arith, omega arith))
 
 names_clk : (verdict : DbVerdict) → IsAddressOf nested_tree nested_rows clk_point (clk_rise verdict).address
 names_clk verdict = record { place = omega arith; instance = refl; subject = refl }
 
 -- each point that the row names is the rise of clk
-exact_hit : (x : Point) → IsPoint nested_tree [] x → IsAddressOf nested_tree nested_rows x (clk_rise Hit).address → IsExactVerdict nested_tree nested_values x Hit
+exact_hit : (x : Point) → IsPointWith nested_tree no_machines x → IsAddressOf nested_tree nested_rows x (clk_rise Hit).address → IsExactVerdict nested_tree nested_values x Hit
 exact_hit (line_point p n at w) is_point named = let e = named.subject in cc
 exact_hit (logic_point p n at op c) is_point named = let e = named.subject.2 in cc
 exact_hit (toggle_point zero i rise) is_point named = let e = named.subject in let same : true ≡ rise = cc in subst (λ b. TogglesOver nested_values (cell 0 0) b) same clk_rises

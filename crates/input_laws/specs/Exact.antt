@@ -1,5 +1,5 @@
 -- What a table says of a design of inputs under a dump.
-use Rattle.std.specs.Prelude.{ℕ, List, [], All}
+use Rattle.std.specs.Prelude.{ℕ, List, All}
 use Rattle.coverage_db.specs.declared.db.Db.{Db}
 use Rattle.coverage_db.specs.declared.db.DbInstance.{DbInstance}
 use Rattle.coverage_db.specs.declared.db.DbPoint.{DbPoint}
@@ -7,7 +7,9 @@ use Rattle.coverage_db.specs.declared.verdict.DbVerdict.{DbVerdict}
 use Rattle.coverage_db.specs.declared.verdict.DbVerdict.TheVariants.{Hit, Missed, Undetermined}
 use Rattle.design_model.specs.Design.{Design as Tree}
 use Rattle.design_model.specs.Lawful.{IsLawfulDesign}
-use Rattle.design_model.specs.Points.{IsPoint, toggle_cell}
+use Rattle.design_model.specs.Points.{toggle_cell}
+use Rattle.verdict_laws.specs.table_laws.point_table.cover_points.design_machines.state_machines.Drawn.{IsPointWith}
+use Rattle.verdict_laws.specs.table_laws.point_table.cover_points.design_machines.state_machines.Machines.{no_machines}
 use Rattle.design_model.specs.Shows.{BoundDump}
 use Rattle.design_model.specs.View.{design_view}
 use Rattle.design_model.specs.declared.design.Design.{Design}
@@ -37,9 +39,9 @@ IsExactVerdict d dump other verdict = ⊥
 -- the row names a point of the design, and its verdict is exact for each that it names
 pub record IsExactRow (d : Tree) (dump : BoundDump) (rows : List DbInstance) (row : DbPoint) : Type 0 where
   pub point : Point
-  pub is_point : IsPoint d [] point
+  pub is_point : IsPointWith d no_machines point
   pub named : IsAddressOf d rows point row.address
-  pub exact : (x : Point) → IsPoint d [] x → IsAddressOf d rows x row.address → IsExactVerdict d dump x row.verdict
+  pub exact : (x : Point) → IsPointWith d no_machines x → IsAddressOf d rows x row.address → IsExactVerdict d dump x row.verdict
 
 -- each row of the table is exact
 abbrev pub IsExact : Tree → BoundDump → Db → Type 0
@@ -49,6 +51,6 @@ IsExact d dump db = All (IsExactRow d dump db.instances) db.points
 abbrev pub ExactLaw : Type 0
 ExactLaw =
     (design : Design) (text instance : List ℕ) (dump : Dump) (db : Db) → HasInputsAlone (design_view design) → IsLawfulDesign (design_view design)
-    → IsDump text dump → IsBindable design dump.vars instance → ListsPoints (design_view design) [] db
-    → IsSound (design_view design) Free (bound_dump design dump instance) [] db → IsReasoned (design_view design) Free (bound_dump design dump instance) [] db
+    → IsDump text dump → IsBindable design dump.vars instance → ListsPoints (design_view design) no_machines db
+    → IsSound (design_view design) Free (bound_dump design dump instance) no_machines db → IsReasoned (design_view design) Free (bound_dump design dump instance) no_machines db
     → IsExact (design_view design) (bound_dump design dump instance) db

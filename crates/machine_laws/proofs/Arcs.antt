@@ -1,6 +1,5 @@
 -- The values of an arc.
-use Rattle.std.proofs.Common.{◌≡◌, ◌≢◌, ◌∙◌, ◌&&◌, ℕ, suc, true, List, [], ◌∷◌, length, ⊎_elim, refl, sym, ap, ap₂, subst, arith}
-use Rattle.std.specs.List.{AllZip}
+use Rattle.std.proofs.Common.{◌≡◌, ◌≢◌, ◌∙◌, ◌&&◌, ℕ, true, List, [], ◌∷◌, length, ⊎_elim, refl, sym, ap, ap₂, subst, arith}
 use Rattle.std.proofs.lemmas.Bool.{cases_lt}
 use Rattle.mark_laws.specs.cover_points.Listed.{IsPlaced, IsPointList, points_of}
 use Rattle.mark_laws.specs.cover_points.MachinePoints.{IsOfMachine, machine_view}
@@ -13,7 +12,7 @@ use Rattle.mark_laws.specs.cover_points.declared.machine_point.MachinePoint.TheV
 use Rattle.mark_laws.proofs.cover_points.Members.{in_at}
 use Rattle.mark_laws.proofs.cover_points.Places.{no_state}
 use Rattle.mark_laws.specs.replay_model.design_model.Design.{Design, In}
-use Rattle.mark_laws.specs.replay_model.design_model.Points.{StateNames}
+use Rattle.mark_laws.specs.cover_points.design_machines.state_machines.Machines.{StateMachines}
 use Rattle.mark_laws.specs.replay_model.design_model.declared.point.Point.{Point}
 use Rattle.mark_laws.specs.replay_model.design_model.declared.point.Point.TheVariants as point
 use Rattle.mark_laws.specs.replay_model.four_state.Vector.{Vector, same_bit, same_bits}
@@ -32,22 +31,16 @@ bits_same : (bs : List Bit) → same_bits bs bs ≡ true
 bits_same [] = refl
 bits_same (b ∷ bs) = ap₂ (λ a c. a && c) (same_itself b) (bits_same bs)
 
-zip_length : {A B : Type 0} (R : A → B → Type 0) (xs : List A) (ys : List B) → AllZip R xs ys → length xs ≡ length ys
-zip_length R [] [] h = refl
-zip_length R [] (y ∷ ys) h = absurd h
-zip_length R (x ∷ xs) [] h = absurd h
-zip_length R (x ∷ xs) (y ∷ ys) h = ap suc (zip_length R xs ys h.1)
-
-module _ (d : Design) (ms : List StateNames) (ps : Points) (list : IsPointList d ms ps) where
+module _ (d : Design) (ms : StateMachines) (ps : Points) (list : IsPointList d ms ps) where
   -- two places of one machine have different values
   values_apart : (m i j : ℕ) → IsPlaced ps.machines.items (Arc m i j) → bits_at (machine_at ps.machines.items m).values i ≢ bits_at (machine_at ps.machines.items m).values j
   values_apart m i j placed same =
       let x = machine_at ps.machines.items m in
-      let of = list.machines.each x (in_at ps.machines.items m no_machine placed.0) in
-      let count : length x.names ≡ length x.values = ap (λ (ns : List (List ℕ)). length ns) of.2.names ∙ zip_length _ _ _ of.2.values in
+      let whole = list.machines.whole x (in_at ps.machines.items m no_machine placed.0) in
+      let count = whole.count in
       let is : same_bits (bits_at x.values i) (bits_at x.values j) ≡ true = ap (λ bs. same_bits bs (bits_at x.values j)) same ∙ bits_same (bits_at x.values j) in
       let back : same_bits (bits_at x.values j) (bits_at x.values i) ≡ true = ap (λ bs. same_bits bs (bits_at x.values i)) (sym same) ∙ bits_same (bits_at x.values i) in
-      ⊎_elim (λ l. of.2.apart j (omega (arith, placed.2, count)) (i, l, is)) (λ l. ⊎_elim (λ k. of.2.apart i (omega (arith, placed.1, count)) (j, k, back)) (λ k. placed.3 (omega (arith, l, k))) (cases_lt j i)) (cases_lt i j)
+      ⊎_elim (λ l. whole.apart j (omega (arith, placed.2, count)) (i, l, is)) (λ l. ⊎_elim (λ k. whole.apart i (omega (arith, placed.1, count)) (j, k, back)) (λ k. placed.3 (omega (arith, l, k))) (cases_lt j i)) (cases_lt i j)
 
   arc_apart : (i : ℕ) (name : List ℕ) (s : ℕ) (from to : List ℕ) (x y : Vector) (p : MachinePoint) → IsPlaced ps.machines.items p → machine_view ps.machines.items p ≡ point.Arc i name s from to x y → x.bits ≢ y.bits
   arc_apart i name s from to x y (State m a) placed is = absurd cc

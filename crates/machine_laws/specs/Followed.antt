@@ -16,7 +16,7 @@ use Rattle.mark_laws.specs.replay_model.design_model.Design.{Design, In}
 use Rattle.mark_laws.specs.replay_model.design_model.Lawful.{IsLawfulDesign}
 use Rattle.mark_laws.specs.replay_model.design_model.declared.point.Point.TheVariants.{Arc as arc_point}
 use Rattle.mark_laws.specs.replay_model.four_state.Vector.{Vector}
-use Rattle.mark_laws.specs.replay_model.design_model.Points.{StateNames}
+use Rattle.mark_laws.specs.cover_points.design_machines.state_machines.Machines.{StateMachines}
 use Rattle.bit_changes.specs.declared.toggles.Toggles.{Toggles}
 use Rattle.replay_steps.specs.Settling.{IsStillAt}
 use Rattle.point_marks.specs.declared.verdict.Verdict.{Verdict}
@@ -53,7 +53,7 @@ HasMoreNotes st = (more : List Marking) × ((all_run st).notes ≡ st.start.note
 -- once the toggles and the machines are marked, each verdict follows what the step reports of its point
 abbrev pub FollowLaw : Type 0
 FollowLaw =
-    (st : Closing) (ms : List StateNames) (ps : Points) (told : Bool) (before middle after : List Verdict) → IsLawfulDesign st.design → IsPointList st.design ms ps → AreOnce ps
+    (st : Closing) (ms : StateMachines) (ps : Points) (told : Bool) (before middle after : List Verdict) → IsLawfulDesign st.design → IsPointList st.design ms ps → AreOnce ps
     → AreVerdicts st.design ps (all_run st).notes before → IsStillAt st (all_run st) → HasMoreNotes st → (told ≡ true → AreTold st.design ps st.start)
     → FollowToggles st ps before middle → MarksMachines st ps told middle after → FollowNotes st ps before after
 
@@ -68,5 +68,5 @@ SeenLaw = (st : Closing) (ps : Points) (masks : List Toggles) (told : Bool) (bef
 -- the two values of an arc of a listed machine differ
 abbrev pub ArcsLaw : Type 0
 ArcsLaw =
-    (d : Design) (ms : List StateNames) (ps : Points) (i : ℕ) (name : List ℕ) (s : ℕ) (from to : List ℕ) (x y : Vector) → IsPointList d ms ps
+    (d : Design) (ms : StateMachines) (ps : Points) (i : ℕ) (name : List ℕ) (s : ℕ) (from to : List ℕ) (x y : Vector) → IsPointList d ms ps
     → In (arc_point i name s from to x y) (points_of ps) → x.bits ≢ y.bits

@@ -1,6 +1,6 @@
 //! The designs of sources.
 
-ghost use Rattle.std.specs.Prelude.{IfSome};
+ghost use Rattle.std.specs.Prelude.{◌≡◌, [], IfOk, IfSome};
 ghost use Rattle.design_model.specs.Lawful.{IsLawfulDesign};
 ghost use Rattle.design_model.specs.View.{design_view};
 
@@ -17,9 +17,11 @@ pub(crate) type Source = (&'static str, &'static str);
 pub(crate) type Machine = (&'static str, &'static str, &'static [&'static str]);
 
 /// The machines as they are named.
-pub(crate) fn states_of(alloc: Global, machines: &[Machine]) -> Result<States, NoMemory> {
+pub(crate) fn states_of(alloc: Global, machines: &[Machine]) -> Result<States, NoMemory>
+    ensures { IfOk result (λ states. states.drawn ≡ []) }
+{
     let mut states = States::new(alloc);
-    for (module_name, variable, names) in machines {
+    'machines: for (module_name, variable, names) in machines {
         let names = words_of(alloc, names)?;
         states.add(module_name, variable, &names)?;
     }

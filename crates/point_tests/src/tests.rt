@@ -1,4 +1,4 @@
-ghost use Rattle.std.specs.Prelude.{◌≤◌, IfSome, length};
+ghost use Rattle.std.specs.Prelude.{◌≡◌, ◌≤◌, [], IfSome, length};
 ghost use Rattle.cover_points.specs.Listed.{points_of};
 ghost use Rattle.cover_points.specs.Visits.{AreApart, AreOnce, ArePlaced};
 ghost use Rattle.design_model.specs.Lawful.{IsLawfulDesign};
@@ -37,7 +37,8 @@ fn listed(alloc: Global, design: &Design, machines: &[Machine]) -> Option<Points
 
 /// The points of a design with machines that are named.
 fn listed_with(alloc: Global, design: &Design, states: &States) -> Option<Points>
-    requires { IsLawfulDesign (design_view design.now) }
+    requires lawful { IsLawfulDesign (design_view design.now) }
+    requires named { states.now.drawn ≡ [] }
     ensures listed { IfSome result (AreListed (design_view design.now)) }
     ensures apart { IfSome result AreApart }
     ensures once { IfSome result AreOnce }

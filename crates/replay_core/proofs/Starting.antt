@@ -9,6 +9,7 @@ use Rattle.cover_marks.specs.Marks.{AreMarksOf}
 use Rattle.cover_points.specs.declared.listing.Points.{Points}
 use Rattle.design_model.specs.Design.{Design}
 use Rattle.design_model.specs.Shows.{BoundDump, IsFirst, IsShown}
+use Rattle.design_model.specs.declared.point.Point.TheVariants.{Toggle as toggle_point}
 use Rattle.early_sets.specs.declared.habit.Habit.{Habit}
 use Rattle.machine_laws.proofs.Arcs.{arcs_apart}
 use Rattle.replay_follows.specs.Follows.{Follows, IsSubject, Parts}
@@ -52,7 +53,7 @@ module _ (d : Design) (h : Habit) (points : Points) (x : ReplayTables) (replayab
       fits = of.fits;
       runs = runs;
       tabled = subst (λ bound. AreTables d bound m.tables) (sym (fun_ext of.bound)) fits.tabled;
-      listed = λ p i. (replayable.machines, (replayable.listed.members p).0 i);
+      toggles = λ s i rise at. (replayable.listed.members (toggle_point s i rise)).0 at;
       arcs = λ i name s from to y z at. arcs_apart d replayable.machines points i name s from to y z replayable.listed at;
     };
     wakes = replayable.own_wakes;

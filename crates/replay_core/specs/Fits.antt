@@ -9,7 +9,7 @@ use Rattle.cover_points.specs.Visits.{AreApart, AreOnce}
 use Rattle.cover_points.specs.declared.listing.Points.{Points}
 use Rattle.design_model.specs.Design.{Design, In, is_memory, signal_at}
 use Rattle.design_model.specs.Lawful.{IsLawfulDesign}
-use Rattle.design_model.specs.Points.{StateNames}
+use Rattle.cover_points.specs.design_machines.state_machines.Machines.{StateMachines}
 use Rattle.early_sets.specs.WakeState.{state_of}
 use Rattle.four_state.specs.Vector.{Vector}
 use Rattle.index_sets.specs.Rows.{row_at}
@@ -47,7 +47,7 @@ use Rattle.replay_core.specs.declared.tables.ReplayTables.{ReplayTables}
 pub record IsReplayable (d : Design) (points : Points) : Type 0 where
   pub lawful : IsLawfulDesign d
   pub own_wakes : HasOwnWakes d
-  pub machines : List StateNames
+  pub machines : StateMachines
   pub listed : IsPointList d machines points
   pub apart : AreApart points
   pub once : AreOnce points

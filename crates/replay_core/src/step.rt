@@ -7,7 +7,7 @@ ghost use Rattle.cover_marks.specs.Marks.{AreMarksOf};
 ghost use Rattle.cover_points.specs.Listed.{IsPointList};
 ghost use Rattle.design_model.specs.Design.{Design as TheDesign};
 ghost use Rattle.design_model.specs.Lawful.{IsLawfulDesign};
-ghost use Rattle.design_model.specs.Points.{StateNames};
+ghost use Rattle.cover_points.specs.design_machines.state_machines.Machines.{StateMachines};
 ghost use Rattle.design_model.specs.View.{design_view};
 ghost use Rattle.dump_check.specs.Checks.{AgreesAt, IsFirstDifference, last_of_each};
 ghost use Rattle.index_sets.specs.Rows.{row_at};
@@ -181,7 +181,7 @@ fn mark_step(
     requires known { (d : TheDesign) × (k : Kept) × Knows d k store.now }
     requires fits { FitsSignals (design_view design.now) values.now }
     requires count { length seen.old ≡ length design.now.signals }
-    requires listed { (machines : List StateNames) × IsPointList (design_view design.now) machines notes.old.points.now }
+    requires listed { (machines : StateMachines) × IsPointList (design_view design.now) machines notes.old.points.now }
     requires marks { AreMarksOf notes.old.points.now notes.old.marks }
     ensures count { length seen.new ≡ length seen.old }
     ensures points { notes.new.points.now ≡ notes.old.points.now }

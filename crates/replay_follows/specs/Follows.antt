@@ -9,7 +9,7 @@ use Rattle.step_parts.specs.cover_points.Listed.{IsPointList, points_of}
 use Rattle.step_parts.specs.cover_points.Visits.{AreApart, AreOnce}
 use Rattle.step_parts.specs.cover_points.declared.listing.Points.{Points}
 use Rattle.design_model.specs.Design.{Design}
-use Rattle.design_model.specs.Points.{StateNames}
+use Rattle.step_parts.specs.cover_points.design_machines.state_machines.Machines.{StateMachines}
 use Rattle.design_model.specs.Shows.{BoundDump, IsShown}
 use Rattle.early_sets.specs.WakeState.{WakeState}
 use Rattle.early_sets.specs.declared.habit.Habit.{Habit}
@@ -44,7 +44,7 @@ pub record Subject : Type 0 where
 pub record IsSubject (f : Subject) : Type 0 where
   pub is : IsReplayOf f.design (habit_of f.habit) f.dump f.run f.tables (points_of f.points)
   pub wakes : HasOwnWakes f.design
-  pub machines : List StateNames
+  pub machines : StateMachines
   pub listed : IsPointList f.design machines f.points
   pub apart : AreApart f.points
   pub once : AreOnce f.points

@@ -162,7 +162,7 @@ module _ (d : Design) (h : Habit) (early_law : EarlyLaw (machine d)) (dump : Bou
       omega (arith, leb-true 1 (signal_at d s).width (and_parts _ _ (and_parts _ _ (and_parts _ _ (and_parts _ _ all).0).0).0).1)
 
   toggle_has : (s i : ℕ) (rise : Bool) → In (toggle_point s i rise) points → In (toggle_cell d s i) (signal_cells d s)
-  toggle_has s i rise member = subst (λ z. In (toggle_cell d s i) (signal_cells d z)) (toggle_thing d s i) (signal_has d (toggle_cell d s i) (subst (λ z. (toggle_cell d s i).place < (signal_at d z).width) (sym (toggle_thing d s i)) (toggle_in d s i (wide s (is.listed (toggle_point s i rise) member).1.0))))
+  toggle_has s i rise member = subst (λ z. In (toggle_cell d s i) (signal_cells d z)) (toggle_thing d s i) (signal_has d (toggle_cell d s i) (subst (λ z. (toggle_cell d s i).place < (signal_at d z).width) (sym (toggle_thing d s i)) (toggle_in d s i (wide s (is.toggles s i rise member).0))))
 
   if_in : (b : Bool) (n : Marking) (ns : List Marking) → In n (if b then ns else []) → In n ns
   if_in true n ns h' = h'

@@ -1,15 +1,15 @@
 -- What the replay of a dump promises: what it keeps and reports is right from the first step on, until it answers a contradiction,
 -- which no run shows; and so its verdicts hold.
-use Rattle.std.specs.Prelude.{◌≡◌, ◌≢◌, ◌≤◌, ℕ, suc, true, false, List}
+use Rattle.std.specs.Prelude.{◌≡◌, ◌≢◌, ◌≤◌, ℕ, suc, Bool, true, false, List, []}
 use Rattle.event_machine.specs.Cell.{Cell}
 use Rattle.event_machine.specs.Habit.{Habit}
 use Rattle.design_model.specs.four_state.Vector.{Vector}
 use Rattle.design_model.specs.declared.point.Point.{Point}
-use Rattle.design_model.specs.declared.point.Point.TheVariants.{Arc as arc_point}
+use Rattle.design_model.specs.declared.point.Point.TheVariants.{Arc as arc_point, Toggle as toggle_point}
 use Rattle.design_model.specs.Design.{Design, In}
 use Rattle.design_model.specs.Run.{IsRun, Run}
 use Rattle.design_model.specs.Shows.{BoundDump, IsDumpOf, IsFirst, IsListed, IsShowing, IsShown, IsWindow, Shows}
-use Rattle.design_model.specs.Points.{IsHit, IsHitAt, IsPoint, StateNames}
+use Rattle.design_model.specs.Points.{IsHit, IsHitAt, IsPoint}
 use Rattle.design_model.specs.Doubt.{IsInDoubt}
 use Rattle.design_model.specs.Open.{IsReached}
 use Rattle.design_model.specs.Lawful.{IsLawfulDesign}
@@ -23,13 +23,13 @@ use Rattle.replay_model.specs.Step.{Closing, Replay, closed, contradicts}
 use Rattle.replay_model.specs.Start.{contradicts_first, started}
 use Rattle.replay_model.specs.Stands.{AreForced, AreKnown, AreReasoned, IsSound, Stands}
 
--- what is taken for granted of a replay: a lawful design, its tables, runs of its bodies and its points
+-- what is taken for granted of a replay: a lawful design, its tables, runs of its bodies, and points of which the toggles are of bits of its signals
 pub record IsReplayOf (d : Design) (h : Habit) (dump : BoundDump) (run : Runs) (tables : Tables) (points : List Point) : Type 0 where
   pub lawful : IsLawfulDesign d
   pub fits : IsDumpOf d dump
   pub runs : AreRuns d run
   pub tabled : AreTables d dump.bound tables
-  pub listed : (x : Point) → In x points → (machines : List StateNames) × IsPoint d machines x
+  pub toggles : (s i : ℕ) (rise : Bool) → In (toggle_point s i rise) points → IsPoint d [] (toggle_point s i rise)
   pub arcs : (i : ℕ) (name : List ℕ) (s : ℕ) (from to : List ℕ) (x y : Vector) → In (arc_point i name s from to x y) points → x.bits ≢ y.bits  -- two states of a machine differ in value
 
 -- the step at suc t, by these sets

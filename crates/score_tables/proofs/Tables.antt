@@ -8,7 +8,7 @@ use Rattle.coverage_db.specs.declared.db.Db.{Db}
 use Rattle.cover_points.specs.declared.listing.Points.{Points}
 use Rattle.design_model.specs.Design.{Design}
 use Rattle.design_model.specs.Lawful.{IsLawfulDesign}
-use Rattle.design_model.specs.Points.{StateNames}
+use Rattle.cover_points.specs.design_machines.state_machines.Machines.{StateMachines}
 use Rattle.design_model.specs.Shows.{BoundDump, IsWindow}
 use Rattle.design_points.specs.Counted.{AreAllPoints}
 use Rattle.event_machine.specs.Habit.{Habit}
@@ -46,7 +46,7 @@ of_design d Hit w = tt
 of_design d Missed w = tt
 of_design d (Undetermined y) w = w.0
 
-module _ (d : Design) (h : Habit) (dump : BoundDump) (ms : List StateNames) (ps : Points) (vs : List Verdict) (lawful : IsLawfulDesign d) (all : AreAllPoints d ms ps) (small : HasSmallTimes dump) (scored : AreScored d h dump ps vs) where
+module _ (d : Design) (h : Habit) (dump : BoundDump) (ms : StateMachines) (ps : Points) (vs : List Verdict) (lawful : IsLawfulDesign d) (all : AreAllPoints d ms ps) (small : HasSmallTimes dump) (scored : AreScored d h dump ps vs) where
   are_written : All (IsWrittenVerdict d) vs
   are_written = written d h dump ms ps vs scored.replay lawful all.listed small scored.verdicts scored.reasoned
 

@@ -5,7 +5,7 @@ use Rattle.coverage_db.specs.declared.db.Db.{Db}
 use Rattle.cover_points.specs.Listed.{points_of}
 use Rattle.cover_points.specs.declared.listing.Points.{Points}
 use Rattle.design_model.specs.Design.{Design}
-use Rattle.design_model.specs.Points.{StateNames}
+use Rattle.cover_points.specs.design_machines.state_machines.Machines.{StateMachines}
 use Rattle.design_model.specs.Shows.{BoundDump, IsListed}
 use Rattle.event_machine.specs.Habit.{Habit}
 use Rattle.verdict_laws.specs.mark_laws.Marked.{AreVerdicts}
@@ -29,7 +29,7 @@ abbrev pub HasSmallTimes : BoundDump → Type 0
 HasSmallTimes dump = (t : ℕ) → IsListed dump t → t < 2 ^ 63
 
 -- the table lists each point of the design with these state machines once, and what it says of them holds in every run that shows the dump
-pub record IsScoreTable (d : Design) (h : Habit) (dump : BoundDump) (ms : List StateNames) (names : List (List ℕ)) (db : Db) : Type 0 where
+pub record IsScoreTable (d : Design) (h : Habit) (dump : BoundDump) (ms : StateMachines) (names : List (List ℕ)) (db : Db) : Type 0 where
   pub table : IsTable db
   pub head : HasHead d names db
   pub listed : ListsPoints d ms db

@@ -1,7 +1,7 @@
 ghost use Rattle.std.specs.Prelude.{All, IfOk, List};
 ghost use Rattle.cover_marks.specs.Marks.{AreMarksOf};
 ghost use Rattle.design_model.specs.Lawful.{IsLawfulDesign};
-ghost use Rattle.design_model.specs.Points.{StateNames};
+ghost use Rattle.cover_points.specs.design_machines.state_machines.Machines.{StateMachines};
 ghost use Rattle.design_model.specs.Shows.{BoundDump};
 ghost use Rattle.design_model.specs.View.{design_view};
 ghost use Rattle.design_points.specs.Counted.{AreAllPoints};
@@ -29,11 +29,11 @@ pub fn score_table(
     requires lawful { IsLawfulDesign (design_view design.now) }
     requires written { IsWritten sources (design_view design.now) }
     requires rooted { IsRooted (design_view design.now) }
-    requires points { (ms : List StateNames) × AreAllPoints (design_view design.now) ms points.now }
+    requires points { (ms : StateMachines) × AreAllPoints (design_view design.now) ms points.now }
     requires named { All IsWrittenMachine points.now.machines.items }
     requires marks { AreMarksOf points.now marks.now }
     requires scored { (h : Habit) × (dump : BoundDump) × HasSmallTimes dump × AreScored (design_view design.now) h dump points.now marks.now.verdicts }
-    ensures { (h : Habit) (dump : BoundDump) (ms : List StateNames) → AreAllPoints (design_view design.now) ms points.now → HasSmallTimes dump → AreScored (design_view design.now) h dump points.now marks.now.verdicts
+    ensures { (h : Habit) (dump : BoundDump) (ms : StateMachines) → AreAllPoints (design_view design.now) ms points.now → HasSmallTimes dump → AreScored (design_view design.now) h dump points.now marks.now.verdicts
         → IfOk result (IsScoreTable (design_view design.now) h dump ms sources) }
 {
     collect(alloc, design, points, marks, sources)

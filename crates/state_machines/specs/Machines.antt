@@ -1,6 +1,21 @@
--- State machines in the order in which they were first named.
+-- State machines in the order in which they were first named, and what is drawn.
 use Rattle.std.specs.Prelude.{◌&&◌, if◌then◌else◌, ℕ, Bool, List, [], ◌∷◌, bytes_eq}
+use Rattle.four_state.specs.Vector.{Vector}
 use Rattle.design_model.specs.Points.{StateNames}
+use Rattle.state_machines.specs.declared.drawn.Drawn.{Drawn}
+
+-- the machines that are named, and the states and arcs that are drawn
+pub record StateMachines : Type 0 where
+  pub named : List StateNames
+  pub drawn : List Drawn
+
+-- none
+abbrev pub no_machines : StateMachines
+no_machines = record { named = []; drawn = [] }
+
+-- what is drawn of a signal by its name in an instance: a state of each value, and the arc between them if they differ
+abbrev pub drawn_of : ℕ → List ℕ → ℕ → Vector → Vector → Drawn
+drawn_of i name s x y = record { instance = i; name = name; signal = s; from = x; to = y }
 
 -- the machine of this variable of a module, with these states
 abbrev pub machine_of : List ℕ → List ℕ → List (List ℕ) → StateNames

@@ -26,7 +26,7 @@ fn name_at(alloc: Global, words: &Words, place: usize) -> Result<Name, NoMemory>
 }
 
 /// The word as a name.
-fn name_of(alloc: Global, word: &str) -> Result<Name, NoMemory>
+pub(crate) fn name_of(alloc: Global, word: &str) -> Result<Name, NoMemory>
     ensures { IfOk result (λ name. name ≡ word.now) }
 {
     Ok(Name::from_vec(Vec::from_slice(alloc, word.as_bytes())?))

@@ -1,9 +1,12 @@
-ghost use Rattle.std.specs.Prelude.{◌≡◌, ◌↔◌, ◌<◌, [], IfOk, IfSome, IsSome, OnErr, OnOk, length, slice_index_or};
-ghost use Rattle.state_machines.specs.Machines.{machine_of, no_machine, with_machine};
+ghost use Rattle.std.specs.Prelude.{◌≡◌, ◌↔◌, ◌<◌, ◌++◌, ◌∷◌, [], IfOk, IfSome, IsSome, OnErr, OnOk, length, slice_index_or};
+ghost use Rattle.state_machines.specs.Machines.{drawn_of, machine_of, no_machine, no_machines, with_machine};
 ghost use Rattle.state_machines.specs.Seen.{machine_seen};
 
+use crate::Drawn;
+use crate::drawn::drawn_of;
 use crate::names::names_of;
 use cov_host::{Name, NoMemory, Words};
+use four_state::Four;
 use indexmap::IndexMap;
 use std::alloc::Global;
 use std::marker::Model;
@@ -24,39 +27,41 @@ pub struct NamedMachine<'a> {
     pub names: &'a [Name],
 }
 
-/// State machines, in the order in which their variables were first named.
+/// State machines, in the order in which their variables were first named, and what is drawn, in the order of the calls.
 #[derive(Drop)]
 pub struct States {
     alloc: Global,
     machines: IndexMap<Variable, Vec<Name>>,
+    drawn: Vec<Drawn>,
 }
 
 impl Model for States {
-    ghost use Rattle.std.specs.Prelude.{List};
-    ghost use Rattle.design_model.specs.Points.{StateNames};
+    ghost use Rattle.state_machines.specs.Machines.{StateMachines};
 
-    ghost Value = { List StateNames };
+    ghost Value = { StateMachines };
 
     ghost use Rattle.state_machines.specs.Entries.{machines_in};
 
-    ghost view = { λ s. machines_in s.machines.entries };
+    ghost view = { λ s. record { named = machines_in s.machines.entries; drawn = s.drawn.items } };
 }
 
 impl States {
     /// No machine yet. It takes no memory.
     pub fn new(alloc: Global) -> Self
-        ensures { result ≡ [] }
+        ensures { result ≡ no_machines }
     {
         States {
             alloc,
             machines: IndexMap::new(alloc),
+            drawn: Vec::new(alloc),
         }
     }
 
     /// Adds a machine. One of the same module and variable takes the place of the earlier. After a refusal nothing has
     /// changed.
     pub fn add(&mut self, of_module: &str, variable: &str, names: &Words) -> Result<(), NoMemory>
-        ensures ok { OnOk result (self.new ≡ with_machine (machine_of of_module.now variable.now names.now) self.old) }
+        ensures named { OnOk result (self.new.named ≡ with_machine (machine_of of_module.now variable.now names.now) self.old.named) }
+        ensures drawn { OnOk result (self.new.drawn ≡ self.old.drawn) }
         ensures err { OnErr result (self.new ≡ self.old) }
     {
         let variable = variable_of(self.alloc, of_module, variable)?;
@@ -65,17 +70,43 @@ impl States {
         Ok(())
     }
 
-    /// How many machines there are.
+    /// Draws a state, where the values are equal, or else two states and the arc from the first to the second: of a signal by its name in an
+    /// instance. After a refusal nothing has changed.
+    pub fn draw(
+        &mut self,
+        instance: u32,
+        name: &str,
+        signal: u32,
+        from: &Four,
+        to: &Four,
+    ) -> Result<(), NoMemory>
+        ensures drawn { OnOk result (self.new.drawn ≡ self.old.drawn ++ drawn_of instance name.now signal from.now to.now ∷ []) }
+        ensures named { OnOk result (self.new.named ≡ self.old.named) }
+        ensures err { OnErr result (self.new ≡ self.old) }
+    {
+        let drawn = drawn_of(self.alloc, instance, name, signal, from, to)?;
+        self.drawn.push(drawn)?;
+        Ok(())
+    }
+
+    /// What is drawn, in the order of the calls.
+    pub fn drawn(&self) -> &[Drawn]
+        ensures { result.now ≡ self.now.drawn }
+    {
+        self.drawn.as_slice()
+    }
+
+    /// How many machines are named.
     pub fn len(&self) -> usize
-        ensures { result ≡ length self.now }
+        ensures { result ≡ length self.now.named }
     {
         self.machines.len()
     }
 
-    /// The machine at a place, counted from 0.
+    /// The named machine at a place, counted from 0.
     pub fn get(&self, place: usize) -> Option<NamedMachine<'_>>
-        ensures there { IsSome result ↔ (place < length self.now) }
-        ensures machine { IfSome result (λ machine. machine_seen machine ≡ slice_index_or self.now place no_machine) }
+        ensures there { IsSome result ↔ (place < length self.now.named) }
+        ensures machine { IfSome result (λ machine. machine_seen machine ≡ slice_index_or self.now.named place no_machine) }
     {
         match self.machines.get_index(place) {
             Some((variable, names)) => Some(NamedMachine {

@@ -11,13 +11,13 @@ use Rattle.cover_points.specs.Visits.{IsMachinePointAt}
 use Rattle.cover_points.specs.declared.listing.Points.{Points}
 use Rattle.cover_points.specs.declared.machine_point.MachinePoint.{MachinePoint}
 use Rattle.cover_points.specs.declared.machine_point.MachinePoint.TheVariants.{Arc, State}
-use Rattle.cover_points.specs.design_machines.Machines.{IsMachineOf, machine_at, no_machine}
+use Rattle.cover_points.specs.design_machines.Drawn.{IsWhole}
+use Rattle.cover_points.specs.design_machines.Machines.{machine_at, no_machine}
 use Rattle.cover_points.specs.design_machines.declared.machine.Machine.{Machine}
 use Rattle.cover_points.proofs.Members.{in_at}
 use Rattle.cover_points.proofs.Places.{no_state}
-use Rattle.design_machines.proofs.MachineLists.{widths, zip_length}
 use Rattle.design_model.specs.Design.{Design, In, cell, signal_at, signal_cells}
-use Rattle.design_model.specs.Points.{StateNames}
+use Rattle.cover_points.specs.design_machines.state_machines.Machines.{StateMachines}
 use Rattle.design_model.specs.four_state.Vector.{Vector}
 use Rattle.design_model.specs.four_state.declared.bit.Bit.{Bit}
 use Rattle.machine_marks.specs.Marked.{is_of_machine, is_state_of}
@@ -27,28 +27,25 @@ use Rattle.machine_laws.specs.Followed.{is_state}
 pub known_width : (d : Design) (k : Kept) (s : ℕ) (bits : List (Option Bit)) → bits ≡ map k (signal_cells d s) → length bits ≡ (signal_at d s).width
 known_width d k s bits is = ap length is ∙ length-map (signal_cells d s) k ∙ length-map-range_with_len (cell s) 0 (signal_at d s).width
 
-module _ (d : Design) (ms : List StateNames) (ps : Points) (list : IsPointList d ms ps) where
+module _ (d : Design) (ms : StateMachines) (ps : Points) (list : IsPointList d ms ps) where
   module _ (k : ℕ) (inside : k < length ps.machines.items) where
     abbrev x : Machine
     x = machine_at ps.machines.items k
 
-    machine : (m : StateNames) × In m ms × IsMachineOf d m x
-    machine = list.machines.each x (in_at ps.machines.items k no_machine inside)
+    machine : IsWhole d x
+    machine = list.machines.whole x (in_at ps.machines.items k no_machine inside)
 
     pub signal_inside : x.signal < length d.signals
-    signal_inside = machine.2.signal.0
+    signal_inside = machine.signal.0
 
     pub value_count : length x.names ≡ length x.values
-    value_count = ap (λ (ns : List (List ℕ)). length ns) machine.2.names ∙ zip_length _ machine.0.names x.values machine.2.values
+    value_count = machine.count
 
     pub few_values : length x.values ≤ 2 ^ 32
-    few_values =
-        let most = (list.machines.counted machine.0 machine.1).1 in
-        let names : length x.names ≡ length machine.0.names = ap (λ (ns : List (List ℕ)). length ns) machine.2.names in
-        omega (arith, most, names, value_count)
+    few_values = omega (arith, machine.most, value_count)
 
     pub wide_values : All (λ (v : Vector). length v.bits ≡ (signal_at d x.signal).width) x.values
-    wide_values = λ k v l. widths d x.instance x.signal machine.0.names x.values machine.2.values k v l
+    wide_values = machine.widths
 
   -- one that is found at a place
   module _ (k : ℕ) (x : Machine) (xs : List Machine) (same : xs ≡ ps.machines.items) (within : k < length xs) (is : x ≡ get_or xs k x) where

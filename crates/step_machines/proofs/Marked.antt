@@ -15,7 +15,7 @@ use Rattle.cover_points.specs.declared.machine_point.MachinePoint.TheVariants.{A
 use Rattle.cover_points.specs.design_machines.Machines.{machine_at}
 use Rattle.cover_points.specs.design_machines.declared.machine.Machine.{Machine}
 use Rattle.design_model.specs.Design.{Design}
-use Rattle.design_model.specs.Points.{StateNames}
+use Rattle.cover_points.specs.design_machines.state_machines.Machines.{StateMachines}
 use Rattle.machine_index.specs.Index.{HasSignal}
 use Rattle.machine_marks.specs.Marked.{Chances, MarksEach, MarksMachine, MarksStates, chances_of, is_of_machine, is_state_of, marked_if}
 use Rattle.machine_marks.proofs.Tests.{and_or, lt_more}
@@ -63,7 +63,7 @@ in_more (y ∷ ys) k m = ap (λ b. (y == m) || b) (in_more ys k m) ∙ or_assoc 
 abbrev pub MarksNumbers : Closing → Points → List ℕ → ℕ → List Verdict → List Verdict → Type 0
 MarksNumbers st ps ks s before after = MarksEach ps (λ p v. marked_if (is_in ks (machine_of p)) s st.time (step_chances st (own_machine ps p) p) v) before after
 
-module _ (st : Closing) (ms : List StateNames) (ps : Points) (list : IsPointList st.design ms ps) where
+module _ (st : Closing) (ms : StateMachines) (ps : Points) (list : IsPointList st.design ms ps) where
   module _ (k s : ℕ) (signal : (machine_at ps.machines.items k).signal ≡ s) where
     abbrev x : Machine
     x = machine_at ps.machines.items k
@@ -117,7 +117,7 @@ abbrev pub MarksBelow : Design → Points → Kept → ℕ → ℕ → List Verd
 MarksBelow d ps kept time i before after =
     MarksEach ps (λ p v. (let x = own_machine ps p in marked_if (is_state p && nat_lt (machine_of p) i) x.signal time (chances_of x.values (known_bits d kept x.signal) (known_bits d kept x.signal) p) v)) before after
 
-module _ (d : Design) (ms : List StateNames) (ps : Points) (list : IsPointList d ms ps) (kept : Kept) (time : ℕ) where
+module _ (d : Design) (ms : StateMachines) (ps : Points) (list : IsPointList d ms ps) (kept : Kept) (time : ℕ) where
   abbrev mark_of : Machine → Bool → MachinePoint → Verdict → Verdict
   mark_of x b p v = marked_if b x.signal time (chances_of x.values (known_bits d kept x.signal) (known_bits d kept x.signal) p) v
 

@@ -15,7 +15,7 @@ use Rattle.cover_points.specs.design_machines.Machines.{machine_at}
 use Rattle.cover_points.specs.design_machines.declared.machine.Machine.{Machine}
 use Rattle.design_model.specs.Design.{Design}
 use Rattle.design_model.specs.Lawful.{IsLawfulDesign}
-use Rattle.design_model.specs.Points.{StateNames}
+use Rattle.cover_points.specs.design_machines.state_machines.Machines.{StateMachines}
 use Rattle.step_parts.specs.early_sets.WakeState.{WakeState}
 use Rattle.machine_index.specs.Index.{IsIndexOf}
 use Rattle.machine_index.specs.declared.index.MachineIndex.{MachineIndex}
@@ -33,7 +33,7 @@ use Rattle.step_marks.specs.Marked.{IsSeenAfter}
 -- the points are those of a lawful design with some machines, and the index is of them
 pub record FitsMachines (d : Design) (ps : Points) (x : MachineIndex) : Type 0 where
   pub lawful : IsLawfulDesign d
-  pub machines : List StateNames
+  pub machines : StateMachines
   pub listed : IsPointList d machines ps
   pub few : length ps.machines.items ≤ 2 ^ 32
   pub index : IsIndexOf ps.machines.items (length d.signals) x
@@ -66,7 +66,7 @@ MarksThing st ps s before after = MarksEach ps (λ p v. (let x = own_machine ps 
 -- once the toggles and the machines are marked, the parts of the code are those of the replay after the step, and each state was told
 abbrev pub ClosedLaw : Type 0
 ClosedLaw =
-    (st : Closing) (machines : List StateNames) (ps : Points) (told : Bool) (x : Store) (v : StepVectors) (sets : WakeState) (acted : List Bool) (before middle after : Marks) (seen : List Toggles)
+    (st : Closing) (machines : StateMachines) (ps : Points) (told : Bool) (x : Store) (v : StepVectors) (sets : WakeState) (acted : List Bool) (before middle after : Marks) (seen : List Toggles)
     → IsLawfulDesign st.design → IsPointList st.design machines ps → AreOnce ps → AtStep st ps (all_run st) x v sets acted before → (told ≡ true → AreTold st.design ps st.start)
     → MarksInTurn st ps sets.moves before.verdicts middle.verdicts → IsSeenAfter st ps seen middle → AreMarksOf ps after → MarksMachines st ps told middle.verdicts after.verdicts
     → AtRest st.design ps (closed st (points_of ps)) x acted after seen × AreTold st.design ps (closed st (points_of ps))

@@ -5,7 +5,7 @@ ghost use Rattle.body_replay.specs.Store.{Kept};
 ghost use Rattle.cover_marks.specs.Marks.{AreMarksOf};
 ghost use Rattle.cover_points.specs.Listed.{IsPointList};
 ghost use Rattle.design_model.specs.Lawful.{IsLawfulDesign};
-ghost use Rattle.design_model.specs.Points.{StateNames};
+ghost use Rattle.cover_points.specs.design_machines.state_machines.Machines.{StateMachines};
 ghost use Rattle.design_model.specs.View.{design_view};
 ghost use Rattle.machine_index.specs.Index.{IsIndexOf};
 ghost use Rattle.machine_laws.specs.Followed.{MarksMachines};
@@ -16,11 +16,14 @@ ghost use Rattle.step_machines.specs.Marked.{FitsMachines, IsMoving, IsOver, Mar
 
 use cov_host::NoMemory;
 use cover_marks::Marks;
-use cover_points::{MOST_POINTS, Points};
+use cover_points::Points;
 use design_model::Design;
 use machine_marks::{MachineIndex, mark_machine, mark_states};
 use std::alloc::Global;
 use step_parts::{StepValues, Store, known_signal};
+
+/// As many machines as can be numbered.
+const MOST_MACHINES: usize = 1 << 32;
 
 /// The state machines of a design by their signals, and whether their states were marked at a time of the window.
 #[derive(Drop)]
@@ -36,8 +39,8 @@ impl MachineMarks {
         ensures index { IfOk result (λ marks. IsIndexOf points.now.machines.items signals marks.index) }
         ensures told { IfOk result (λ marks. marks.told ≡ false) }
     {
-        // each machine has two states or more, so points that are not too many have fewer machines
-        if points.machines.len() > MOST_POINTS {
+        // several machines may have one state, so there can be more of them than points
+        if points.machines.len() > MOST_MACHINES {
             return Err(NoMemory);
         }
         let index = MachineIndex::new(alloc, points.machines.as_slice(), signals)?;
@@ -88,7 +91,7 @@ impl MachineMarks {
 /// Marks the states of all machines by what is known at this time.
 fn mark_all_states(design: &Design, points: &Points, store: &Store, time: u64, marks: &mut Marks)
     requires lawful { IsLawfulDesign (design_view design.now) }
-    requires listed { (machines : List StateNames) × IsPointList (design_view design.now) machines points.now }
+    requires listed { (machines : StateMachines) × IsPointList (design_view design.now) machines points.now }
     requires few { length points.now.machines.items ≤ 2 ^ 32 }
     requires known { (k : Kept) × Knows (design_view design.now) k store.now }
     requires marks { AreMarksOf points.now marks.old }

@@ -17,7 +17,7 @@ use Rattle.cover_marks.specs.cover_points.Listed.{IsPointList}
 use Rattle.cover_marks.specs.cover_points.declared.listing.Points.{Points}
 use Rattle.design_model.specs.Design.{Design, cell, no_signal, signal_at, signal_cells}
 use Rattle.design_model.specs.Lawful.{IsLawfulDesign, is_signal, span}
-use Rattle.design_model.specs.Points.{StateNames}
+use Rattle.cover_marks.specs.cover_points.design_machines.state_machines.Machines.{StateMachines}
 use Rattle.design_model.specs.View.{design_view}
 use Rattle.design_model.specs.declared.design.Signal.{Signal}
 use Rattle.point_marks.specs.declared.verdict.Verdict.{Verdict}
@@ -75,7 +75,7 @@ module _ (d : Design) (s : ℕ) (x : Signal) (lawful : IsLawfulDesign d) (found 
   pub indexed : x.high < 2 ^ 32 → IsIndexed x
   indexed bound i l = (λ e. up_index x i width_is bound l (rises x e), λ e. down_index x i width_is l (falls x e))
 
-  pub marks_of : (ms : List StateNames) (ps : Points) → IsPointList d ms ps → IsMarkable ps x s
+  pub marks_of : (ms : StateMachines) (ps : Points) → IsPointList d ms ps → IsMarkable ps x s
   marks_of ms ps list = subst (λ y. IsMarkable ps y s) (sym found_at) (markable d ms ps lawful list s inside)
 
   pub old_width : (v : StepVectors) (q : Partly) → FitsSignals d v → q ≡ vector_at v.before s → length q.bits ≡ x.width

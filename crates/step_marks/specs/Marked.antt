@@ -7,7 +7,7 @@ use Rattle.cover_marks.specs.Marks.{AreMarksOf}
 use Rattle.cover_marks.specs.declared.marks.Marks.{Marks}
 use Rattle.cover_marks.specs.cover_points.Listed.{IsPointList}
 use Rattle.cover_marks.specs.cover_points.declared.listing.Points.{Points}
-use Rattle.design_model.specs.Points.{StateNames}
+use Rattle.cover_marks.specs.cover_points.design_machines.state_machines.Machines.{StateMachines}
 use Rattle.step_parts.specs.replay_model.Step.{Closing, all_run}
 use Rattle.signal_marks.specs.Seen.{AreSeen}
 use Rattle.step_parts.specs.step_values.Starts.{HasValues}
@@ -18,7 +18,7 @@ pub record IsOver (st : Closing) (ps : Points) (moving : List ℕ) (end : ℕ) (
   pub values : HasValues st (all_run st) x v
   pub moves : (s : ℕ) → is_in moving s ≡ true → st.sets.moves s ≡ true
   pub time : st.time ≡ end
-  pub machines : List StateNames
+  pub machines : StateMachines
   pub listed : IsPointList st.design machines ps
   pub marks : AreMarksOf ps m
   pub seen : AreSeen st.design ps masks m.verdicts

@@ -6,7 +6,7 @@ ghost use Rattle.cover_marks.specs.cover_points.Listed.{IsPointList};
 ghost use Rattle.cover_marks.specs.cover_points.declared.listing.Points.{Points as ThePoints};
 ghost use Rattle.design_model.specs.Design.{Design as TheDesign};
 ghost use Rattle.design_model.specs.Lawful.{IsLawfulDesign};
-ghost use Rattle.design_model.specs.Points.{StateNames};
+ghost use Rattle.cover_marks.specs.cover_points.design_machines.state_machines.Machines.{StateMachines};
 ghost use Rattle.design_model.specs.View.{design_view};
 ghost use Rattle.body_replay.specs.Store.{Kept};
 ghost use Rattle.step_parts.specs.replay_model.Step.{Closing};
@@ -37,7 +37,7 @@ pub fn mark_moved(
     requires known { (d : TheDesign) × (k : Kept) × Knows d k store.now }
     requires fits { FitsSignals (design_view design.now) values.now }
     requires count { length seen.old ≡ length design.now.signals }
-    requires listed { (machines : List StateNames) × (ps : ThePoints) × IsPointList (design_view design.now) machines ps × AreMarksOf ps marks.old }
+    requires listed { (machines : StateMachines) × (ps : ThePoints) × IsPointList (design_view design.now) machines ps × AreMarksOf ps marks.old }
     ensures count { length seen.new ≡ length seen.old }
     ensures points { (ps : ThePoints) → AreMarksOf ps marks.old → AreMarksOf ps marks.new }
     ensures toggles { (st : Closing) (ps : ThePoints) → IsOver st ps moves.now time store.now values.now seen.old marks.old → MarksInTurn st ps moves.now marks.old.verdicts marks.new.verdicts }
@@ -63,7 +63,7 @@ fn mark_thing(
     requires known { (d : TheDesign) × (k : Kept) × Knows d k store.now }
     requires fits { FitsSignals (design_view design.now) values.now }
     requires count { length seen.old ≡ length design.now.signals }
-    requires listed { (machines : List StateNames) × (ps : ThePoints) × IsPointList (design_view design.now) machines ps × AreMarksOf ps marks.old }
+    requires listed { (machines : StateMachines) × (ps : ThePoints) × IsPointList (design_view design.now) machines ps × AreMarksOf ps marks.old }
     ensures count { length seen.new ≡ length seen.old }
     ensures points { (ps : ThePoints) → AreMarksOf ps marks.old → AreMarksOf ps marks.new }
     ensures toggles { (st : Closing) (ps : ThePoints) → IsOver st ps (thing ∷ []) time store.now values.now seen.old marks.old → MarksMoved st ps thing marks.old.verdicts marks.new.verdicts }

@@ -18,7 +18,7 @@ use Rattle.point_table.specs.cover_points.declared.points.IndexPoint.{IndexPoint
 use Rattle.point_table.specs.design_machines.Machines.{machine_at}
 use Rattle.design_model.specs.Design.{Design, In, memory_at, process_at, signal_at}
 use Rattle.design_model.specs.Lawful.{IsLawfulDesign, instance_of}
-use Rattle.design_model.specs.Points.{StateNames}
+use Rattle.point_table.specs.cover_points.design_machines.state_machines.Machines.{StateMachines}
 use Rattle.point_table.specs.Addresses.{addresses_of, line_address, machine_address, missed_points, node_address, toggle_address, word_address}
 use Rattle.point_table.specs.Collected.{AreListed, IsCollected}
 use Rattle.point_table.specs.Rows.{ArePlaces, IsPathOrder, place_at, row_at}
@@ -47,7 +47,7 @@ zip_at R (x ∷ xs) [] k d e h l = absurd h
 zip_at R (x ∷ xs) (y ∷ ys) zero d e h l = h.0
 zip_at R (x ∷ xs) (y ∷ ys) (suc k) d e h l = zip_at R xs ys k d e h.1 (omega (arith, l))
 
-module _ (d : Design) (lawful : IsLawfulDesign d) (sources : List (List ℕ)) (written : IsWritten sources d) (order places : List ℕ) (in_order : IsPathOrder d.instances order) (are : ArePlaces order places) (machines : List StateNames) (ps : Points) (listed : IsPointList d machines ps) (named : All IsWrittenMachine ps.machines.items) where
+module _ (d : Design) (lawful : IsLawfulDesign d) (sources : List (List ℕ)) (written : IsWritten sources d) (order places : List ℕ) (in_order : IsPathOrder d.instances order) (are : ArePlaces order places) (machines : StateMachines) (ps : Points) (listed : IsPointList d machines ps) (named : All IsWrittenMachine ps.machines.items) where
   abbrev rows : List DbInstance
   rows = map (row_at d.instances) order
 

@@ -18,7 +18,8 @@ use Rattle.point_table.specs.cover_points.declared.listing.Points.{Points}
 use Rattle.point_table.proofs.cover_points.Members.{in_at, in_contains}
 use Rattle.design_model.specs.Design.{Design}
 use Rattle.design_model.specs.Lawful.{IsLawfulDesign}
-use Rattle.design_model.specs.Points.{IsPoint, StateNames}
+use Rattle.point_table.specs.cover_points.design_machines.state_machines.Drawn.{IsPointWith}
+use Rattle.point_table.specs.cover_points.design_machines.state_machines.Machines.{StateMachines}
 use Rattle.design_model.specs.declared.point.Point.{Point}
 use Rattle.design_model.specs.declared.point.Point.TheVariants.{Line as line_point, Logic as logic_point, Toggle as toggle_point, State as state_point, Arc as arc_point, Word as word_point}
 use Rattle.point_table.specs.Addresses.{source_line}
@@ -75,8 +76,8 @@ module _ (d : Design) (lawful : IsLawfulDesign d) (sources : List (List ℕ)) (p
       let place = one_place a.instance b.instance (row_at d.instances 0) h.place k.place (h.instance ∙ sym k.instance) in
       ap (λ i. make i a.subject) place ∙ ap (make b.instance) (same_subject d x a.subject b.subject h.subject k.subject)
 
-  module _ (machines : List StateNames) (listed : IsPointList d machines ps) (each : ListsEach d ps db) where
-    there : (a : Address) → Contains (map (λ (p : DbPoint). p.address) db.points) a → (x : Point) × IsPoint d machines x × IsAddressOf d db.instances x a
+  module _ (machines : StateMachines) (listed : IsPointList d machines ps) (each : ListsEach d ps db) where
+    there : (a : Address) → Contains (map (λ (p : DbPoint). p.address) db.points) a → (x : Point) × IsPointWith d machines x × IsAddressOf d db.instances x a
     there a c =
         let k = c.0 in
         let l : k < length db.points = omega (arith, c.1, length-map db.points (λ (p : DbPoint). p.address)) in
@@ -84,7 +85,7 @@ module _ (d : Design) (lawful : IsLawfulDesign d) (sources : List (List ℕ)) (p
         let own : (get_or db.points k no_row).address ≡ a = sym (get_or-map (λ (p : DbPoint). p.address) db.points k no_row a l) ∙ c.2 in
         (x, (listed.members x).0 (in_at (points_of ps) k no_point (omega (arith, l, each.count))), subst (IsAddressOf d db.instances x) own (each.each k l))
 
-    back : (a : Address) → (x : Point) × IsPoint d machines x × IsAddressOf d db.instances x a → Contains (map (λ (p : DbPoint). p.address) db.points) a
+    back : (a : Address) → (x : Point) × IsPointWith d machines x × IsAddressOf d db.instances x a → Contains (map (λ (p : DbPoint). p.address) db.points) a
     back a h =
         let x = h.0 in
         let c = in_contains x (points_of ps) ((listed.members x).1 h.1) in
@@ -95,7 +96,7 @@ module _ (d : Design) (lawful : IsLawfulDesign d) (sources : List (List ℕ)) (p
         let own = one_address x (get_or db.points k no_row).address a (subst (λ rs. IsAddressOf d rs x (get_or db.points k no_row).address) is.instances row) (subst (λ rs. IsAddressOf d rs x a) is.instances h.2) in
         (k, omega (arith, l, length-map db.points (λ (p : DbPoint). p.address)), get_or-map (λ (p : DbPoint). p.address) db.points k no_row a l ∙ own)
 
-pub lists_points : (d : Design) (sources : List (List ℕ)) (machines : List StateNames) (ps : Points) (db : Db) → IsLawfulDesign d → IsWritten sources d → IsPointList d machines ps → All IsWrittenMachine ps.machines.items → IsCollected d sources ps db → ListsPoints d machines db
+pub lists_points : (d : Design) (sources : List (List ℕ)) (machines : StateMachines) (ps : Points) (db : Db) → IsLawfulDesign d → IsWritten sources d → IsPointList d machines ps → All IsWrittenMachine ps.machines.items → IsCollected d sources ps db → ListsPoints d machines db
 lists_points d sources machines ps db lawful written listed named is =
     let each = lists_each d sources ps db lawful written (machines, listed) named is in
     λ a. (there d lawful sources ps db is machines listed each a, back d lawful sources ps db is machines listed each a)

@@ -1,5 +1,5 @@
 -- What the points of each kind have of a written design: an instance of the design, and names, numbers and places that a text has.
-use Rattle.std.proofs.Common.{◌≡◌, ◌<◌, ◌≤◌, ◌+◌, ◌-◌, ◌^◌, ◌++◌, ◌∙◌, ℕ, Bool, true, false, List, [], ◌∷◌, Option, Some, None, length, map, get_or, max, min, inl, inr, refl, sym, ap, subst, arith}
+use Rattle.std.proofs.Common.{◌≡◌, ◌≢◌, ◌<◌, ◌≤◌, ◌+◌, ◌-◌, ◌^◌, ◌++◌, ◌∙◌, ℕ, Bool, true, false, List, [], ◌∷◌, Option, Some, None, length, map, get_or, max, min, inl, inr, refl, sym, ap, subst, arith}
 use Rattle.std.specs.Prelude.{IfSome, ◌==◌, ◌&&◌, ◌||◌, nat_le, nat_lt}
 use Rattle.std.specs.List.{All}
 use Rattle.std.specs.declared.cmp.Ordering.TheVariants.{Equal}
@@ -21,13 +21,16 @@ use Rattle.point_table.specs.cover_points.declared.points.IndexPoint.{IndexPoint
 use Rattle.point_table.proofs.cover_points.Members.{both_equal, in_at, in_left, in_map_back, in_right, same_bytes, same_place}
 use Rattle.point_table.proofs.cover_points.NamedOnce.{one_signal}
 use Rattle.point_table.proofs.cover_points.Pieces.{instance_there, test_at}
-use Rattle.point_table.specs.design_machines.Machines.{machine_at, no_machine}
+use Rattle.point_table.specs.design_machines.Machines.{machine_at, name_at, no_machine}
+use Rattle.point_table.proofs.cover_points.state_machines.Digits.{digits_apart}
 use Rattle.design_model.specs.declared.design.Instance.{Instance}
 use Rattle.design_model.specs.declared.design.Memory.{Memory}
 use Rattle.design_model.specs.Design.{Design, In, is_memory, memory_at, no_instance, no_memory, no_process, no_signal, process_at, signal_at}
 use Rattle.design_model.specs.Lawful.{IsLawfulDesign, instance_of, is_memory_of, is_signal, span}
 use Rattle.design_model.specs.Numbered.{NodeAt, counted_terms, line_at, lines_of, node_at, node_text, nodes_in}
-use Rattle.design_model.specs.Points.{IsPoint, IsWithin, StateNames}
+use Rattle.design_model.specs.Points.{IsWithin}
+use Rattle.point_table.specs.cover_points.design_machines.state_machines.Drawn.{IsPointWith}
+use Rattle.point_table.specs.cover_points.design_machines.state_machines.Machines.{StateMachines}
 use Rattle.design_model.specs.Tree.{Term}
 use Rattle.design_model.specs.Value.{head}
 use Rattle.design_model.specs.declared.point.Point.{Point}
@@ -144,7 +147,7 @@ module _ (d : Design) (lawful : IsLawfulDesign d) (sources : List (List ℕ)) (w
       let i : x.instance ≡ y.instance = same_place (λ (i : Instance). i.path) d.instances x.instance y.instance no_instance lawful.instance_paths (signal_instance s l) (signal_instance t m) (same_bytes _ _ both.0) in
       one_signal d lawful x.instance s t x.name (inl (l, refl, refl)) (inl (m, sym i, sym (same_bytes x.name y.name both.1)))
 
-  module _ (machines : List StateNames) (ps : Points) (listed : IsPointList d machines ps) (named : All IsWrittenMachine ps.machines.items) (places : List ℕ) where
+  module _ (machines : StateMachines) (ps : Points) (listed : IsPointList d machines ps) (named : All IsWrittenMachine ps.machines.items) (places : List ℕ) where
     abbrev kl : List Point
     kl = map line_view ps.lines.items
 
@@ -204,22 +207,29 @@ module _ (d : Design) (lawful : IsLawfulDesign d) (sources : List (List ℕ)) (w
         let ranged : (signal_at d y.thing).ranged ≡ (signal_at d x.thing).ranged = ap (λ s. (signal_at d s).ranged) (sym one) in
         ap (λ r. option_cmp (index_if (signal_at d x.thing).ranged x.index) (index_if r y.index)) ranged ∙ index_same (signal_at d x.thing).ranged x.index y.index (λ unranged. (no_index x h unranged, no_index y k (ranged ∙ unranged)))
 
-    machine_in : (x : MachinePoint) → In x ps.states.items → IsPoint d machines (machine_view ps.machines.items x)
+    machine_in : (x : MachinePoint) → In x ps.states.items → IsPointWith d machines (machine_view ps.machines.items x)
     machine_in x h =
         let v = machine_view ps.machines.items x in
         (listed.members v).0 (in_left v (kl ++ kn ++ kt ++ ks) kw (in_right v (kl ++ kn ++ kt) ks (in_map_back (machine_view ps.machines.items) x ps.states.items h)))
 
+    own_instance : (k : ℕ) → k < length ps.machines.items → (machine_at ps.machines.items k).instance < length d.instances
+    own_instance k l = (listed.machines.whole (machine_at ps.machines.items k) (in_at ps.machines.items k no_machine l)).instance
+
+    -- the two states of an arc have different names
+    names_differ : (k i j : ℕ) → IsPointWith d machines (machine_view ps.machines.items (Arc k i j)) → name_at (machine_at ps.machines.items k).names i ≢ name_at (machine_at ps.machines.items k).names j
+    names_differ k i j (inl p) = p.5
+    names_differ k i j (inr p) same = p.8 (digits_apart _ _ (sym p.4 ∙ same ∙ p.5))
+
     pub machine_is : (x : MachinePoint) → In x ps.states.items → ((machine_at ps.machines.items (machine_of x)).instance < length d.instances) × IsSubject (length sources) (machine_address ps.machines.items places x).subject
     machine_is (State k s) h =
-        let p = machine_in (State k s) h in
         let placed = listed.placed (State k s) h in
         let m = named k no_machine placed.0 in
-        (p.2.0.0, (m.0, m.1 s [] placed.1))
+        (own_instance k placed.0, (m.0, m.1 s [] placed.1))
     machine_is (Arc k i j) h =
         let p = machine_in (Arc k i j) h in
         let placed = listed.placed (Arc k i j) h in
         let m = named k no_machine placed.0 in
-        (p.2.0.0, (m.0, m.1 i [] placed.1, m.1 j [] placed.2, p.5))
+        (own_instance k placed.0, (m.0, m.1 i [] placed.1, m.1 j [] placed.2, names_differ k i j p))
 
     pub word_of : (x : IndexPoint) → In x ps.words.items → (is_memory d x.thing ≡ true) × (min (memory_at d x.thing).first (memory_at d x.thing).last ≤ x.index) × (x.index ≤ max (memory_at d x.thing).first (memory_at d x.thing).last)
     word_of x h =

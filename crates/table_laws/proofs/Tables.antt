@@ -27,7 +27,7 @@ use Rattle.point_table.proofs.cover_points.Members.{in_append, in_at, in_contain
 use Rattle.point_table.specs.design_machines.declared.machine.Machine.{Machine}
 use Rattle.design_model.specs.Design.{Design, In, is_memory, is_number, memory_at, no_instance, path_in, path_of, signal_at}
 use Rattle.design_model.specs.Lawful.{IsLawfulDesign}
-use Rattle.design_model.specs.Points.{StateNames}
+use Rattle.point_table.specs.cover_points.design_machines.state_machines.Machines.{StateMachines}
 use Rattle.point_marks.specs.declared.verdict.Verdict.{Verdict}
 use Rattle.point_marks.specs.declared.verdict.Verdict.TheVariants.{Hit, Missed, Undetermined}
 use Rattle.point_table.specs.Addresses.{addresses_of, line_address, machine_address, missed, missed_points, node_address, toggle_address, word_address}
@@ -87,7 +87,7 @@ module _ (d : Design) (lawful : IsLawfulDesign d) (sources : List (List ℕ)) (w
   many : length order ≡ length d.instances
   many = order_length (length d.instances) order in_order.permutation
 
-  module _ (machines : List StateNames) (ps : Points) (listed : IsPointList d machines ps) (named : All IsWrittenMachine ps.machines.items) where
+  module _ (machines : StateMachines) (ps : Points) (listed : IsPointList d machines ps) (named : All IsWrittenMachine ps.machines.items) where
     abbrev la : List Address
     la = map (line_address places) ps.lines.items
 

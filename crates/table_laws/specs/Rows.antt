@@ -10,7 +10,8 @@ use Rattle.point_table.specs.cover_points.Visits.{point_at}
 use Rattle.point_table.specs.cover_points.declared.listing.Points.{Points}
 use Rattle.design_model.specs.Design.{Design, memory_at, process_at, signal_at}
 use Rattle.design_model.specs.Lawful.{instance_of}
-use Rattle.design_model.specs.Points.{IsPoint, StateNames}
+use Rattle.point_table.specs.cover_points.design_machines.state_machines.Drawn.{IsPointWith}
+use Rattle.point_table.specs.cover_points.design_machines.state_machines.Machines.{StateMachines}
 use Rattle.design_model.specs.declared.point.Point.{Point}
 use Rattle.design_model.specs.declared.point.Point.TheVariants.{Line as line_point, Logic as logic_point, Toggle as toggle_point, State as state_point, Arc as arc_point, Word as word_point}
 use Rattle.point_table.specs.Addresses.{index_if, source_line}
@@ -49,5 +50,5 @@ pub record ListsEach (d : Design) (ps : Points) (db : Db) : Type 0 where
   pub each : (k : ℕ) → k < length db.points → IsAddressOf d db.instances (point_at ps k) (slice_index_or db.points k no_row).address
 
 -- the addresses of the table are those of the points of the design with these machines
-abbrev pub ListsPoints : Design → List StateNames → Db → Type 0
-ListsPoints d ms db = (a : Address) → Contains (map (λ p. p.address) db.points) a ↔ ((x : Point) × IsPoint d ms x × IsAddressOf d db.instances x a)
+abbrev pub ListsPoints : Design → StateMachines → Db → Type 0
+ListsPoints d ms db = (a : Address) → Contains (map (λ p. p.address) db.points) a ↔ ((x : Point) × IsPointWith d ms x × IsAddressOf d db.instances x a)

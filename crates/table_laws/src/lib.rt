@@ -15,7 +15,7 @@ ghost use Rattle.point_table.specs.cover_points.declared.listing.TheConstants.{M
 ghost use Rattle.design_model.specs.Design.{Design};
 ghost use Rattle.design_model.specs.FlipFlop.{flip_flop};
 ghost use Rattle.design_model.specs.Lawful.{IsLawfulDesign};
-ghost use Rattle.design_model.specs.Points.{StateNames};
+ghost use Rattle.point_table.specs.cover_points.design_machines.state_machines.Machines.{StateMachines};
 ghost use Rattle.point_marks.specs.declared.verdict.Verdict.{Verdict};
 ghost use Rattle.point_table.specs.Collected.{AreListed, IsCollected};
 ghost use Rattle.point_table.specs.Verdicts.{AreShown};
@@ -39,7 +39,7 @@ pub fn rows_law()
 
 /// The table lists each point of the design with these machines, and nothing else.
 pub fn listed_law()
-    ensures { (d : Design) (sources : List (List ℕ)) (ms : List StateNames) (ps : Points) (db : Db) → IsLawfulDesign d → IsWritten sources d → IsPointList d ms ps
+    ensures { (d : Design) (sources : List (List ℕ)) (ms : StateMachines) (ps : Points) (db : Db) → IsLawfulDesign d → IsWritten sources d → IsPointList d ms ps
         → All IsWrittenMachine ps.machines.items → IsCollected d sources ps db → ListsPoints d ms db }
 {}
 

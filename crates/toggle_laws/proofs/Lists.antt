@@ -10,7 +10,8 @@ use Rattle.design_model.specs.Design.{Design, no_signal, signal_at}
 use Rattle.design_model.specs.declared.design.Signal.{Signal}
 use Rattle.design_model.specs.declared.point.Point.TheVariants as point
 use Rattle.design_model.specs.Lawful.{IsLawfulDesign, is_signal, span}
-use Rattle.design_model.specs.Points.{IsWithin, StateNames}
+use Rattle.design_model.specs.Points.{IsWithin}
+use Rattle.mark_laws.specs.cover_points.design_machines.state_machines.Machines.{StateMachines}
 use Rattle.signal_marks.specs.Toggled.{index_at}
 use Rattle.signal_marks.proofs.state_machines.Members.{place_of}
 use Rattle.toggle_laws.specs.Turns.{IsMarkable}
@@ -48,7 +49,7 @@ module _ (x : Signal) (h : IsShaped x) (i : ℕ) (w : i < x.width) where
 narrow : (d : Design) (x : Signal) → is_signal d x ≡ true → x.width ≤ 128
 narrow d x h = grind (arith, nat_tests)
 
-pub markable : (d : Design) (ms : List StateNames) (ps : Points) → IsLawfulDesign d → IsPointList d ms ps → (s : ℕ) → s < length d.signals → IsMarkable ps (signal_at d s) s
+pub markable : (d : Design) (ms : StateMachines) (ps : Points) → IsLawfulDesign d → IsPointList d ms ps → (s : ℕ) → s < length d.signals → IsMarkable ps (signal_at d s) s
 markable d ms ps lawful list s l =
     let x = signal_at d s in
     let is = test_at (is_signal d) d.signals s no_signal lawful.signals l in

@@ -11,7 +11,9 @@ use Rattle.bit_changes.specs.Changes.{bit_at, may_fall, may_rise, surely_falls, 
 use Rattle.bit_changes.specs.Changes as changes
 use Rattle.design_model.specs.Design.{Design, cell, signal_at, signal_cells}
 use Rattle.design_model.specs.Lawful.{IsLawfulDesign}
-use Rattle.design_model.specs.Points.{IsPoint, StateNames, toggle_cell}
+use Rattle.design_model.specs.Points.{toggle_cell}
+use Rattle.mark_laws.specs.cover_points.design_machines.state_machines.Drawn.{IsPointWith}
+use Rattle.mark_laws.specs.cover_points.design_machines.state_machines.Machines.{StateMachines}
 use Rattle.design_model.specs.declared.point.Point.{Point}
 use Rattle.design_model.specs.declared.point.Point.TheVariants as point
 use Rattle.mark_laws.specs.cover_points.Listed.{IsPointList, points_of}
@@ -139,7 +141,7 @@ module _ (st : Closing) (ps : Points) where
       ∙ ap₂ (λ a b. toggled s st.time a b v) (sym (surely_so r _ _)) (sym (may_so r _ _))
 
   module _ (lawful : IsLawfulDesign st.design) (signals : List ℕ) (before after : List Verdict) (moves : AreMoves st signals) (h : MarksInTurn st ps signals before after) where
-    toggle_follows : (ms : List StateNames) (k s i : ℕ) (r : Bool) → k < length (points_of ps) → point_at ps k ≡ point.Toggle s i r → IsPoint st.design ms (point.Toggle s i r) → verdict_of after k ≡ with_notes (point_notes st (point.Toggle s i r)) (verdict_of before k)
+    toggle_follows : (ms : StateMachines) (k s i : ℕ) (r : Bool) → k < length (points_of ps) → point_at ps k ≡ point.Toggle s i r → IsPointWith st.design ms (point.Toggle s i r) → verdict_of after k ≡ with_notes (point_notes st (point.Toggle s i r)) (verdict_of before k)
     toggle_follows ms k s i r l is at =
         let place = place_at st.design lawful s i at.0 at.1 in
         let p = place.0 in
@@ -154,7 +156,7 @@ module _ (st : Closing) (ps : Points) where
         go true place = sym (toggle_noted s i place.0 r (verdict_of before k) place.1)
         go false place = refl
 
-    follows : (ms : List StateNames) (k : ℕ) (x : Point) → k < length (points_of ps) → point_at ps k ≡ x → IsPoint st.design ms x → (IsOfMachine x → ⊥) → verdict_of after k ≡ with_notes (point_notes st x) (verdict_of before k)
+    follows : (ms : StateMachines) (k : ℕ) (x : Point) → k < length (points_of ps) → point_at ps k ≡ x → IsPointWith st.design ms x → (IsOfMachine x → ⊥) → verdict_of after k ≡ with_notes (point_notes st x) (verdict_of before k)
     follows ms k (point.Line p n at w) l is of plain = passed k (λ s i r e. (let no : Some (Line p n) ≡ Some (Toggle s i r) = ap visit_of (sym is) ∙ e in cc)) signals before after h
     follows ms k (point.Logic p n at op c) l is of plain = passed k (λ s i r e. (let no : Some (Node p n c) ≡ Some (Toggle s i r) = ap visit_of (sym is) ∙ e in cc)) signals before after h
     follows ms k (point.Toggle s i r) l is of plain = toggle_follows ms k s i r l is of
@@ -172,7 +174,7 @@ module _ (st : Closing) (ps : Points) where
     unvisited (point.Arc i name s from to x y) is = refl
     unvisited (point.Word m i write) is = absurd is
 
-    pub all_follow : (ms : List StateNames) → IsPointList st.design ms ps → FollowToggles st ps before after
+    pub all_follow : (ms : StateMachines) → IsPointList st.design ms ps → FollowToggles st ps before after
     all_follow ms list = record {
       count = counted signals before after h;
       each = λ k l no. follows ms k (point_at ps k) l refl ((list.members (point_at ps k)).0 (in_at (points_of ps) k no_point l)) no;

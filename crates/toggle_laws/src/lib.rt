@@ -10,7 +10,7 @@ ghost use Rattle.mark_laws.specs.cover_points.Listed.{IsPointList};
 ghost use Rattle.mark_laws.specs.cover_points.declared.listing.Points.{Points};
 ghost use Rattle.design_model.specs.Design.{Design, signal_at};
 ghost use Rattle.design_model.specs.Lawful.{IsLawfulDesign};
-ghost use Rattle.design_model.specs.Points.{StateNames};
+ghost use Rattle.mark_laws.specs.cover_points.design_machines.state_machines.Machines.{StateMachines};
 ghost use Rattle.point_marks.specs.declared.verdict.Verdict.{Verdict};
 ghost use Rattle.mark_laws.specs.replay_model.Step.{Closing};
 ghost use Rattle.toggle_laws.specs.Turns.{AreMoves, FollowToggles, IsMarkable, MarksInTurn, MarksMoved};
@@ -18,7 +18,7 @@ ghost use Rattle.toggle_laws.specs.Turns.{AreMoves, FollowToggles, IsMarkable, M
 /// The toggle points of the signals that may move are marked, in turn: each verdict of a point that is no state or arc follows what
 /// the step reports of its point.
 pub fn toggles_law()
-    ensures { (st : Closing) (machines : List StateNames) (ps : Points) (signals : List ℕ) (before after : List Verdict) → IsLawfulDesign st.design → IsPointList st.design machines ps
+    ensures { (st : Closing) (machines : StateMachines) (ps : Points) (signals : List ℕ) (before after : List Verdict) → IsLawfulDesign st.design → IsPointList st.design machines ps
         → AreMoves st signals → MarksInTurn st ps signals before after → FollowToggles st ps before after }
 {}
 
@@ -30,5 +30,5 @@ pub fn turn_law()
 
 /// A lawful design and the list of its points give what the marks of a signal's toggles ask of the signal.
 pub fn markable_law()
-    ensures { (d : Design) (machines : List StateNames) (ps : Points) (s : ℕ) → IsLawfulDesign d → IsPointList d machines ps → s < length d.signals → IsMarkable ps (signal_at d s) s }
+    ensures { (d : Design) (machines : StateMachines) (ps : Points) (s : ℕ) → IsLawfulDesign d → IsPointList d machines ps → s < length d.signals → IsMarkable ps (signal_at d s) s }
 {}

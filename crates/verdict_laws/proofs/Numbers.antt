@@ -12,7 +12,10 @@ use Rattle.design_model.specs.Doubt.{BlockDoubt, IsInDoubt, IsPointOn, unclear_a
 use Rattle.design_model.specs.Execution.{execution, execution_start}
 use Rattle.design_model.specs.Lawful.{IsLawfulDesign, is_alias}
 use Rattle.design_model.specs.Machine.{events_of, lists_edge, same_edge}
-use Rattle.design_model.specs.Points.{IsNameOf, IsPoint, StateNames}
+use Rattle.design_model.specs.Points.{IsNameOf}
+use Rattle.mark_laws.specs.cover_points.design_machines.state_machines.Drawn.{IsOfDesign, IsPointWith}
+use Rattle.mark_laws.specs.cover_points.design_machines.state_machines.Machines.{StateMachines}
+use Rattle.mark_laws.specs.cover_points.design_machines.state_machines.declared.drawn.Drawn.{Drawn}
 use Rattle.design_model.specs.Reads.{PartialMap, ReadsFrom}
 use Rattle.design_model.specs.Shows.{BoundDump, IsListed, IsWindow, IsWindowOf, last_time}
 use Rattle.design_model.specs.Tree.{Process, assign, clocked, comb}
@@ -73,11 +76,16 @@ module _ (d : Design) (lawful : IsLawfulDesign d) where
       let alias = and_parts (nat_lt other.0.instance (length d.instances)) (nat_lt other.0.signal (length d.signals)) (member_passes (is_alias d) other.0 d.aliases lawful.aliases other.1) in
       omega (arith, ltb-true other.0.signal (length d.signals) alias.1, other.4)
 
+  drawn_signal : (e : Drawn) → IsOfDesign d e → Below e.signal
+  drawn_signal e of_design = omega (arith, of_design.signal.0)
+
   -- a point on a signal is on one of the design
-  point_signal : (ms : List StateNames) (x : Point) (s : ℕ) → IsPoint d ms x → IsPointOn x s → Below s
+  point_signal : (ms : StateMachines) (x : Point) (s : ℕ) → IsPointWith d ms x → IsPointOn x s → Below s
   point_signal ms (point.Toggle q i rise) s is on = omega (arith, is.0, on)
-  point_signal ms (point.State i name q state x) s is on = subst Below on (named_signal i name q is.2.2)
-  point_signal ms (point.Arc i name q from to x y) s is on = subst Below on (named_signal i name q is.2.2)
+  point_signal ms (point.State i name q state x) s (inl is) on = subst Below on (named_signal i name q is.2.2)
+  point_signal ms (point.State i name q state x) s (inr is) on = subst Below (sym is.3.2 ∙ on) (drawn_signal is.0 is.2)
+  point_signal ms (point.Arc i name q from to x y) s (inl is) on = subst Below on (named_signal i name q is.2.2)
+  point_signal ms (point.Arc i name q from to x y) s (inr is) on = subst Below (sym is.3.2 ∙ on) (drawn_signal is.0 is.2)
   point_signal ms (point.Line p n at w) s is on = absurd on
   point_signal ms (point.Logic p n at op c) s is on = absurd on
   point_signal ms (point.Word m i write) s is on = absurd on
@@ -94,6 +102,6 @@ module _ (d : Design) (lawful : IsLawfulDesign d) where
     block_number (own_target doubt) = omega (arith, lawful.comb_writes p s doubt.is_comb doubt.target)
 
   -- what is in doubt is a number of the design
-  pub doubt_number : (h : Habit) (dump : BoundDump) (ms : List StateNames) (x : Point) (t s : ℕ) → IsPoint d ms x → IsInDoubt d h dump x t s → s < length d.signals + length d.memories
+  pub doubt_number : (h : Habit) (dump : BoundDump) (ms : StateMachines) (x : Point) (t s : ℕ) → IsPointWith d ms x → IsInDoubt d h dump x t s → s < length d.signals + length d.memories
   doubt_number h dump ms x t s is_point (of_block p in_window of_point is_open doubt) = block_number h dump t s p doubt
   doubt_number h dump ms x t s is_point (of_signal in_window on moves unclear) = point_signal ms x s is_point on

@@ -10,7 +10,8 @@ use Rattle.mark_laws.specs.cover_points.declared.listing.Points.{Points}
 use Rattle.mark_laws.proofs.cover_points.Members.{in_contains}
 use Rattle.design_model.specs.Design.{Design}
 use Rattle.design_model.specs.Lawful.{IsLawfulDesign}
-use Rattle.design_model.specs.Points.{IsPoint, StateNames}
+use Rattle.mark_laws.specs.cover_points.design_machines.state_machines.Drawn.{IsPointWith}
+use Rattle.mark_laws.specs.cover_points.design_machines.state_machines.Machines.{StateMachines}
 use Rattle.design_model.specs.declared.point.Point.{Point}
 use Rattle.table_laws.specs.point_table.Collected.{IsCollected}
 use Rattle.table_laws.specs.point_table.Rows.{row_at}
@@ -21,7 +22,7 @@ use Rattle.table_laws.specs.Rows.{IsAddressOf, ListsEach}
 use Rattle.table_laws.specs.Written.{IsWritten, IsWrittenMachine}
 use Rattle.verdict_laws.proofs.AddressKeys.{one_row}
 
-module _ (d : Design) (sources : List (List ℕ)) (ms : List StateNames) (ps : Points) (db : Db) (lawful : IsLawfulDesign d) (written : IsWritten sources d) (listed : IsPointList d ms ps) (named : All IsWrittenMachine ps.machines.items) (is : IsCollected d sources ps db) (table : IsTable db) where
+module _ (d : Design) (sources : List (List ℕ)) (ms : StateMachines) (ps : Points) (db : Db) (lawful : IsLawfulDesign d) (written : IsWritten sources d) (listed : IsPointList d ms ps) (named : All IsWrittenMachine ps.machines.items) (is : IsCollected d sources ps db) (table : IsTable db) where
   pub each : ListsEach d ps db
   each = lists_each d sources ps db lawful written (ms, listed) named is
 
@@ -29,7 +30,7 @@ module _ (d : Design) (sources : List (List ℕ)) (ms : List StateNames) (ps : P
   abbrev moved : (x : Point) (k : ℕ) → IsAddressOf d db.instances x (get_or db.points k no_row).address → IsAddressOf d (map (row_at d.instances) is.order) x (get_or db.points k no_row).address
   moved x k h = subst (λ rs. IsAddressOf d rs x (get_or db.points k no_row).address) is.instances h
 
-  pub one_point : (x : Point) (k : ℕ) → IsPoint d ms x → k < length db.points → IsAddressOf d db.instances x (get_or db.points k no_row).address → x ≡ point_at ps k
+  pub one_point : (x : Point) (k : ℕ) → IsPointWith d ms x → k < length db.points → IsAddressOf d db.instances x (get_or db.points k no_row).address → x ≡ point_at ps k
   one_point x k is_point l h =
       let c = in_contains x (points_of ps) ((listed.members x).1 is_point) in
       let j = c.0 in

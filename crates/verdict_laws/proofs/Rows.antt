@@ -12,7 +12,8 @@ use Rattle.mark_laws.specs.cover_points.declared.listing.Points.{Points}
 use Rattle.mark_laws.proofs.cover_points.Members.{in_at}
 use Rattle.design_model.specs.Design.{Design, In}
 use Rattle.design_model.specs.Lawful.{IsLawfulDesign}
-use Rattle.design_model.specs.Points.{IsHit, StateNames}
+use Rattle.design_model.specs.Points.{IsHit}
+use Rattle.mark_laws.specs.cover_points.design_machines.state_machines.Machines.{StateMachines}
 use Rattle.design_model.specs.Run.{Run}
 use Rattle.design_model.specs.Shows.{BoundDump}
 use Rattle.design_model.specs.declared.point.Point.{Point}
@@ -57,7 +58,7 @@ hit_alone d x a Hit is hit = refl
 hit_alone d x a Missed is hit = absurd (unmarked_alone d x a.notes is hit)
 hit_alone d x a (Undetermined y) is hit = absurd (is.0 hit)
 
-module _ (d : Design) (h : Habit) (dump : BoundDump) (sources : List (List ℕ)) (ms : List StateNames) (ps : Points) (verdicts : List Verdict) (a : Replay) (db : Db) (lawful : IsLawfulDesign d) (written : IsWritten sources d) (listed : IsPointList d ms ps) (named : All IsWrittenMachine ps.machines.items) (is : IsCollected d sources ps db) (table : IsTable db) (shown : AreShown d verdicts db.points) (verdicts_are : AreVerdicts d ps a.notes verdicts) where
+module _ (d : Design) (h : Habit) (dump : BoundDump) (sources : List (List ℕ)) (ms : StateMachines) (ps : Points) (verdicts : List Verdict) (a : Replay) (db : Db) (lawful : IsLawfulDesign d) (written : IsWritten sources d) (listed : IsPointList d ms ps) (named : All IsWrittenMachine ps.machines.items) (is : IsCollected d sources ps db) (table : IsTable db) (shown : AreShown d verdicts db.points) (verdicts_are : AreVerdicts d ps a.notes verdicts) where
   lists : ListsEach d ps db
   lists = each d sources ms ps db lawful written listed named is table
 

@@ -8,7 +8,8 @@ use Rattle.mark_laws.specs.cover_points.declared.listing.Points.{Points}
 use Rattle.mark_laws.proofs.cover_points.Members.{in_at}
 use Rattle.design_model.specs.Design.{Design}
 use Rattle.design_model.specs.Lawful.{IsLawfulDesign}
-use Rattle.design_model.specs.Points.{IsPoint, StateNames}
+use Rattle.mark_laws.specs.cover_points.design_machines.state_machines.Drawn.{IsPointWith}
+use Rattle.mark_laws.specs.cover_points.design_machines.state_machines.Machines.{StateMachines}
 use Rattle.design_model.specs.Shows.{BoundDump, IsListed}
 use Rattle.design_model.specs.declared.point.Point.{Point}
 use Rattle.event_machine.specs.Habit.{Habit}
@@ -22,8 +23,8 @@ use Rattle.mark_laws.specs.replay_model.Step.{Replay}
 use Rattle.table_laws.specs.Written.{IsWrittenVerdict}
 use Rattle.verdict_laws.proofs.Numbers.{doubt_number, window_before}
 
-module _ (d : Design) (h : Habit) (dump : BoundDump) (ms : List StateNames) (ps : Points) (verdicts : List Verdict) (a : Replay) (lawful : IsLawfulDesign d) (listed : IsPointList d ms ps) (times : (t : ℕ) → IsListed dump t → t < 2 ^ 63) (verdicts_are : AreVerdicts d ps a.notes verdicts) (are : AreReasonedVerdicts d h dump (points_of ps) a) where
-  one : (x : Point) (v : Verdict) → IsPoint d ms x → IsVerdict d x a.notes (verdict_view v) → IsWrittenVerdict d v
+module _ (d : Design) (h : Habit) (dump : BoundDump) (ms : StateMachines) (ps : Points) (verdicts : List Verdict) (a : Replay) (lawful : IsLawfulDesign d) (listed : IsPointList d ms ps) (times : (t : ℕ) → IsListed dump t → t < 2 ^ 63) (verdicts_are : AreVerdicts d ps a.notes verdicts) (are : AreReasonedVerdicts d h dump (points_of ps) a) where
+  one : (x : Point) (v : Verdict) → IsPointWith d ms x → IsVerdict d x a.notes (verdict_view v) → IsWrittenVerdict d v
   one x Hit is_point is = tt
   one x Missed is_point is = tt
   one x (Undetermined y) is_point is =

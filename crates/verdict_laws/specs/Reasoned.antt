@@ -7,7 +7,9 @@ use Rattle.coverage_db.specs.declared.verdict.DbVerdict.TheVariants.{Hit, Undete
 use Rattle.design_model.specs.Design.{Design, path_of}
 use Rattle.design_model.specs.Doubt.{IsInDoubt}
 use Rattle.design_model.specs.Open.{IsReached}
-use Rattle.design_model.specs.Points.{IsHitAt, IsPoint, StateNames}
+use Rattle.design_model.specs.Points.{IsHitAt}
+use Rattle.mark_laws.specs.cover_points.design_machines.state_machines.Drawn.{IsPointWith}
+use Rattle.mark_laws.specs.cover_points.design_machines.state_machines.Machines.{StateMachines}
 use Rattle.design_model.specs.Run.{Run}
 use Rattle.design_model.specs.Shows.{BoundDump, IsWindow}
 use Rattle.design_model.specs.declared.point.Point.{Point}
@@ -45,6 +47,6 @@ pub record IsReasonedRow (d : Design) (h : Habit) (dump : BoundDump) (x : Point)
   pub reached : IsReachedPoint d h dump x → row.verdict ≡ Hit
 
 -- so it is with each row and each point of the design that it names
-abbrev pub IsReasoned : Design → Habit → BoundDump → List StateNames → Db → Type 0
+abbrev pub IsReasoned : Design → Habit → BoundDump → StateMachines → Db → Type 0
 IsReasoned d h dump ms db =
-    All (λ row. (x : Point) → IsPoint d ms x → IsAddressOf d db.instances x row.address → IsReasonedRow d h dump x row) db.points
+    All (λ row. (x : Point) → IsPointWith d ms x → IsAddressOf d db.instances x row.address → IsReasonedRow d h dump x row) db.points

@@ -6,7 +6,9 @@ use Rattle.coverage_db.specs.declared.db.DbPoint.{DbPoint}
 use Rattle.coverage_db.specs.declared.verdict.DbVerdict.{DbVerdict}
 use Rattle.coverage_db.specs.declared.verdict.DbVerdict.TheVariants.{Hit, Missed, Undetermined}
 use Rattle.design_model.specs.Design.{Design}
-use Rattle.design_model.specs.Points.{IsHit, IsPoint, StateNames}
+use Rattle.design_model.specs.Points.{IsHit}
+use Rattle.mark_laws.specs.cover_points.design_machines.state_machines.Drawn.{IsPointWith}
+use Rattle.mark_laws.specs.cover_points.design_machines.state_machines.Machines.{StateMachines}
 use Rattle.design_model.specs.Run.{IsRun, Run}
 use Rattle.design_model.specs.Shows.{BoundDump, Shows}
 use Rattle.design_model.specs.declared.point.Point.{Point}
@@ -25,10 +27,10 @@ Says Missed hit = hit → ⊥
 Says (Undetermined time path) hit = ⊤
 
 -- what the row says of the point that it names holds in every run that shows the dump
-abbrev pub IsSoundRow : Design → Habit → BoundDump → List StateNames → List DbInstance → DbPoint → Type 0
+abbrev pub IsSoundRow : Design → Habit → BoundDump → StateMachines → List DbInstance → DbPoint → Type 0
 IsSoundRow d h dump ms rows row =
-    (x : Point) → IsPoint d ms x → IsAddressOf d rows x row.address → (r : Run) → IsShownBy d h dump r → Says row.verdict (IsHit d dump r x)
+    (x : Point) → IsPointWith d ms x → IsAddressOf d rows x row.address → (r : Run) → IsShownBy d h dump r → Says row.verdict (IsHit d dump r x)
 
 -- each point marked hit is hit, and each point marked missed is never hit, in every run that shows the dump
-abbrev pub IsSound : Design → Habit → BoundDump → List StateNames → Db → Type 0
+abbrev pub IsSound : Design → Habit → BoundDump → StateMachines → Db → Type 0
 IsSound d h dump ms db = All (IsSoundRow d h dump ms db.instances) db.points

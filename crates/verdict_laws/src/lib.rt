@@ -18,7 +18,9 @@ ghost use Rattle.mark_laws.specs.cover_points.Visits.{point_at};
 ghost use Rattle.mark_laws.specs.cover_points.declared.listing.Points.{Points};
 ghost use Rattle.design_model.specs.Design.{Design};
 ghost use Rattle.design_model.specs.Lawful.{IsLawfulDesign};
-ghost use Rattle.design_model.specs.Points.{IsHit, IsPoint, StateNames};
+ghost use Rattle.design_model.specs.Points.{IsHit};
+ghost use Rattle.mark_laws.specs.cover_points.design_machines.state_machines.Drawn.{IsPointWith};
+ghost use Rattle.mark_laws.specs.cover_points.design_machines.state_machines.Machines.{StateMachines};
 ghost use Rattle.design_model.specs.Run.{Run};
 ghost use Rattle.design_model.specs.Shows.{BoundDump, IsListed, IsWindow};
 ghost use Rattle.design_model.specs.declared.point.Point.{Point};
@@ -38,21 +40,21 @@ pub use table_laws::collect;
 
 /// A row of a table names one point of the design, that of its own number.
 pub fn one_point_law()
-    ensures { (d : Design) (sources : List (List ℕ)) (ms : List StateNames) (ps : Points) (db : Db) → IsLawfulDesign d → IsWritten sources d → IsPointList d ms ps
-        → All IsWrittenMachine ps.machines.items → IsCollected d sources ps db → IsTable db → (x : Point) (k : ℕ) → IsPoint d ms x → k < length db.points
+    ensures { (d : Design) (sources : List (List ℕ)) (ms : StateMachines) (ps : Points) (db : Db) → IsLawfulDesign d → IsWritten sources d → IsPointList d ms ps
+        → All IsWrittenMachine ps.machines.items → IsCollected d sources ps db → IsTable db → (x : Point) (k : ℕ) → IsPointWith d ms x → k < length db.points
         → IsAddressOf d db.instances x (slice_index_or db.points k no_row).address → x ≡ point_at ps k }
 {}
 
 /// Where the verdicts of a replay are sound, so is a table that has them.
 pub fn sound_law()
-    ensures { (d : Design) (h : Habit) (dump : BoundDump) (sources : List (List ℕ)) (ms : List StateNames) (ps : Points) (verdicts : List Verdict) (a : Replay) (db : Db)
+    ensures { (d : Design) (h : Habit) (dump : BoundDump) (sources : List (List ℕ)) (ms : StateMachines) (ps : Points) (verdicts : List Verdict) (a : Replay) (db : Db)
         → IsLawfulDesign d → IsWritten sources d → IsPointList d ms ps → All IsWrittenMachine ps.machines.items → IsCollected d sources ps db → IsTable db
         → AreShown d verdicts db.points → AreVerdicts d ps a.notes verdicts → AreSoundVerdicts d h dump (points_of ps) a → IsSound d h dump ms db }
 {}
 
 /// Where they are reasoned, so is the table.
 pub fn reasoned_law()
-    ensures { (d : Design) (h : Habit) (dump : BoundDump) (sources : List (List ℕ)) (ms : List StateNames) (ps : Points) (verdicts : List Verdict) (a : Replay) (db : Db)
+    ensures { (d : Design) (h : Habit) (dump : BoundDump) (sources : List (List ℕ)) (ms : StateMachines) (ps : Points) (verdicts : List Verdict) (a : Replay) (db : Db)
         → IsLawfulDesign d → IsWritten sources d → IsPointList d ms ps → All IsWrittenMachine ps.machines.items → IsCollected d sources ps db → IsTable db
         → AreShown d verdicts db.points → AreVerdicts d ps a.notes verdicts → AreReasonedVerdicts d h dump (points_of ps) a → IsReasoned d h dump ms db }
 {}
@@ -60,7 +62,7 @@ pub fn reasoned_law()
 /// The verdicts of a replay can be written in a table, where the times that the dump lists can: a doubt is of a signal or memory of
 /// the design, at a time before the last.
 pub fn written_law()
-    ensures { (d : Design) (h : Habit) (dump : BoundDump) (ms : List StateNames) (ps : Points) (verdicts : List Verdict) (a : Replay)
+    ensures { (d : Design) (h : Habit) (dump : BoundDump) (ms : StateMachines) (ps : Points) (verdicts : List Verdict) (a : Replay)
         → IsLawfulDesign d → IsPointList d ms ps → ((t : ℕ) → IsListed dump t → t < 2 ^ 63) → AreVerdicts d ps a.notes verdicts
         → AreReasonedVerdicts d h dump (points_of ps) a → All (IsWrittenVerdict d) verdicts }
 {}
@@ -74,10 +76,10 @@ pub fn no_step_law()
 /// What the definitions refuse: a table that marks a point missed which a run that shows the dump hits, or hit which such a run does not
 /// hit, and one that leaves a point undetermined which a block reaches.
 pub fn refused_examples()
-    ensures missed { (d : Design) (h : Habit) (dump : BoundDump) (ms : List StateNames) (rows : List DbInstance) (row : DbPoint) (x : Point) (r : Run) → row.verdict ≡ verdict.Missed
-        → IsPoint d ms x → IsAddressOf d rows x row.address → IsShownBy d h dump r → IsHit d dump r x → IsSoundRow d h dump ms rows row → ⊥ }
-    ensures hit { (d : Design) (h : Habit) (dump : BoundDump) (ms : List StateNames) (rows : List DbInstance) (row : DbPoint) (x : Point) (r : Run) → row.verdict ≡ verdict.Hit
-        → IsPoint d ms x → IsAddressOf d rows x row.address → IsShownBy d h dump r → (IsHit d dump r x → ⊥) → IsSoundRow d h dump ms rows row → ⊥ }
+    ensures missed { (d : Design) (h : Habit) (dump : BoundDump) (ms : StateMachines) (rows : List DbInstance) (row : DbPoint) (x : Point) (r : Run) → row.verdict ≡ verdict.Missed
+        → IsPointWith d ms x → IsAddressOf d rows x row.address → IsShownBy d h dump r → IsHit d dump r x → IsSoundRow d h dump ms rows row → ⊥ }
+    ensures hit { (d : Design) (h : Habit) (dump : BoundDump) (ms : StateMachines) (rows : List DbInstance) (row : DbPoint) (x : Point) (r : Run) → row.verdict ≡ verdict.Hit
+        → IsPointWith d ms x → IsAddressOf d rows x row.address → IsShownBy d h dump r → (IsHit d dump r x → ⊥) → IsSoundRow d h dump ms rows row → ⊥ }
     ensures open { (d : Design) (h : Habit) (dump : BoundDump) (x : Point) (row : DbPoint) (time : ℕ) (path : List ℕ) → row.verdict ≡ verdict.Undetermined time path
         → IsReachedPoint d h dump x → IsReasonedRow d h dump x row → ⊥ }
 {}

@@ -26,20 +26,20 @@ returns-in-None-clause-fault c = λ f e.
     let points = c.in_ok-points.points in
     let over : MOST_POINTS < length (points_of points) = elim (cases_lt MOST_POINTS (length (points_of points))) [ inl l ↦ l | inr m ↦ absurd (false≢true (c.in-None.ensures.1 (omega arith))) ] in
     let same : TooManyPoints ≡ f = cc in
-    subst (IsPointFault d ms) same (points, c.in_ok-points.ensures ms c.in_ok-machines.ensures.machines, over)
+    subst (IsPointFault d ms) same (points, c.in_ok-points.ensures ms c.requires.drawable c.in_ok-machines.ensures.machines, over)
 
 pub returns-in-Some-clause-apart : goal.returns-in-Some-clause-apart
 returns-in-Some-clause-apart c =
     let d = design_view c.args.design.now in
-    points_apart d c.args.states.now c.in_ok-points.points (c.in_ok-points.ensures c.args.states.now c.in_ok-machines.ensures.machines)
+    points_apart d c.args.states.now c.in_ok-points.points (c.in_ok-points.ensures c.args.states.now c.requires.drawable c.in_ok-machines.ensures.machines)
 
 pub returns-in-Some-clause-once : goal.returns-in-Some-clause-once
 returns-in-Some-clause-once c =
     let d = design_view c.args.design.now in
-    points_once d c.args.states.now c.in_ok-points.points (c.in_ok-points.ensures c.args.states.now c.in_ok-machines.ensures.machines)
+    points_once d c.args.states.now c.in_ok-points.points (c.in_ok-points.ensures c.args.states.now c.requires.drawable c.in_ok-machines.ensures.machines)
 
 pub returns-in-Some-clause-placed : goal.returns-in-Some-clause-placed
 returns-in-Some-clause-placed c =
     let d = design_view c.args.design.now in
-    let listed = c.in_ok-points.ensures c.args.states.now c.in_ok-machines.ensures.machines in
+    let listed = c.in_ok-points.ensures c.args.states.now c.requires.drawable c.in_ok-machines.ensures.machines in
     record { placed = listed.placed; counted = counted d c.args.states.now c.in_ok-points.points.machines.items listed.machines }

@@ -5,10 +5,9 @@ use Rattle.design_model.specs.View.{design_view}
 use Rattle.design_points.specs.Counted.{AreAllPoints}
 use Rattle.whole_files.proofs.EffectLemmas.{CountsUp-trans, KeepsFiles-trans}
 use Rattle.covered_cli.proofs.Designs.{lawful_design, replayable_design, rooted_design, written_design}
-use Rattle.covered_cli.proofs.Scoring.{IfErr-map, OnOk-map, design_stands, has_listed, others_kept, others_kept_since, points_stand_with, score_is_done, scoring_stands, writing_is_late, writing_stands}
-use Rattle.covered_cli.proofs.Machines.{listed_with, written_machines}
+use Rattle.covered_cli.proofs.Scoring.{IfErr-map, OnOk-map, design_stands, drawing_stands, has_listed, others_kept, others_kept_since, points_stand, score_is_done, scoring_stands, writing_is_late, writing_stands}
+use Rattle.covered_cli.proofs.Machines.{drawable, machines_are, written_machines}
 use Rattle.covered_cli.proofs.SourceNames.{AreGoodNames, good_names}
-use Rattle.covered_cli.specs.ScoreMachines.{machines_in}
 use Rattle.covered_cli.specs.ScoreSources.{sources_in}
 use Rattle.covered_cli.proofs.score.run_score.Goals as goal
 
@@ -20,8 +19,25 @@ returns-in_err-design-clause-fault g c =
     let fault = err_from_is_err_and c.from_residual.result c.from_residual.ensures.1 in
     rw (fault.1, fault.2) (design_stands score before after _ c.in_err-design.ensures.fault)
 
-pub points_of-requires : goal.points_of-requires
-points_of-requires g c = lawful_design _ _ _ _ c.in_ok-design.ensures.read.stands
+pub draw_machines-requires : goal.draw_machines-requires
+draw_machines-requires g c = lawful_design _ _ _ _ c.in_ok-design.ensures.read.stands
+
+pub returns-in_err-draw_machines-clause-fault : goal.returns-in_err-draw_machines-clause-fault
+returns-in_err-draw_machines-clause-fault g c =
+    let score = score_values c.args.words.now in
+    let before = g.H.Host.outside c.args.host.now in
+    let after = g.H.Host.outside c.design_of.new.host in
+    let read = c.in_ok-design.ensures.read in
+    let fault = err_from_is_err_and c.from_residual-in_err-draw_machines.result c.from_residual-in_err-draw_machines.ensures.1 in
+    rw (fault.1, fault.2) (drawing_stands score before after read.sources _ read.gathered read.stands _ c.in_err-draw_machines.ensures.fault)
+
+pub points_of-requires-clause-lawful : goal.points_of-requires-clause-lawful
+points_of-requires-clause-lawful g c = lawful_design _ _ _ _ c.in_ok-design.ensures.read.stands
+
+pub points_of-requires-clause-drawable : goal.points_of-requires-clause-drawable
+points_of-requires-clause-drawable g c =
+    let score = score_values c.args.words.now in
+    drawable score _ (lawful_design _ _ _ _ c.in_ok-design.ensures.read.stands) c.requires _ (machines_are score _ _ _ c.in_ok-states.ensures.named c.in_ok-states.ensures.drawn c.draw_machines.ensures.named c.in_ok-draw_machines.ensures.drawn c.in_ok-draw_machines.ensures.placed)
 
 pub returns-in_err-points-clause-fault : goal.returns-in_err-points-clause-fault
 returns-in_err-points-clause-fault g c =
@@ -30,7 +46,7 @@ returns-in_err-points-clause-fault g c =
     let after = g.H.Host.outside c.design_of.new.host in
     let read = c.in_ok-design.ensures.read in
     let fault = err_from_is_err_and c.from_residual-in_err-points.result c.from_residual-in_err-points.ensures.1 in
-    rw (fault.1, fault.2) (points_stand_with score before after read.sources _ read.gathered read.stands _ c.in_ok-states.ensures _ c.in_err-points.ensures.fault)
+    rw (fault.1, fault.2) (points_stand score before after read.sources _ _ (machines_are score _ _ _ c.in_ok-states.ensures.named c.in_ok-states.ensures.drawn c.draw_machines.ensures.named c.in_ok-draw_machines.ensures.drawn c.in_ok-draw_machines.ensures.placed) read.gathered read.stands _ c.in_err-points.ensures.fault)
 
 pub db_of-requires-clause-replayable : goal.db_of-requires-clause-replayable
 db_of-requires-clause-replayable g c = rw c.deref.ensures (replayable_design _ _ _ _ _ _ c.in_ok-design.ensures.read.stands c.in_ok-points.ensures.points)
@@ -41,7 +57,7 @@ db_of-requires-clause-points g c = rw c.deref.ensures (_, c.in_ok-points.ensures
 pub db_of-requires-clause-named : goal.db_of-requires-clause-named
 db_of-requires-clause-named g c =
     let score = score_values c.args.words.now in
-    rw c.deref.ensures (written_machines score _ _ c.requires (listed_with score _ _ _ c.in_ok-states.ensures c.in_ok-points.ensures.points))
+    rw c.deref.ensures (written_machines score _ (lawful_design _ _ _ _ c.in_ok-design.ensures.read.stands) c.requires _ (machines_are score _ _ _ c.in_ok-states.ensures.named c.in_ok-states.ensures.drawn c.draw_machines.ensures.named c.in_ok-draw_machines.ensures.drawn c.in_ok-draw_machines.ensures.placed) _ c.in_ok-points.ensures.points)
 
 pub db_of-requires-clause-rooted : goal.db_of-requires-clause-rooted
 db_of-requires-clause-rooted g c = rooted_design _ _ _ _ c.in_ok-design.ensures.read.stands
@@ -63,7 +79,7 @@ returns-in_err-db-clause-fault g c =
     let read = c.in_ok-design.ensures.read in
     let effects = c.in_ok-design.ensures.effects in
     let fault = err_from_is_err_and c.from_residual-in_err-db.result c.from_residual-in_err-db.ensures.1 in
-    rw (fault.1, fault.2) (scoring_stands score read.sources _ before middle after (has_listed score before read.sources _ _ read.gathered read.stands (listed_with score _ _ _ c.in_ok-states.ensures c.in_ok-points.ensures.points)) effects.files effects.counts c.in_err-db.ensures.effects.counts _ c.in_err-db.ensures.fault)
+    rw (fault.1, fault.2) (scoring_stands score read.sources _ before middle after (has_listed score before read.sources _ _ _ (machines_are score _ _ _ c.in_ok-states.ensures.named c.in_ok-states.ensures.drawn c.draw_machines.ensures.named c.in_ok-draw_machines.ensures.drawn c.in_ok-draw_machines.ensures.placed) read.gathered read.stands c.in_ok-points.ensures.points) effects.files effects.counts c.in_err-db.ensures.effects.counts _ c.in_err-db.ensures.fault)
 
 pub returns-in_err-db-clause-early : goal.returns-in_err-db-clause-early
 returns-in_err-db-clause-early g c =
@@ -91,9 +107,7 @@ returns-clause-done g c =
     let effects = c.in_ok-design.ensures.effects in
     let db = c.in_ok-db.ensures in
     let kept = KeepsFiles-trans before middle later effects.files db.effects.files in
-    let all = listed_with score _ _ _ c.in_ok-states.ensures c.in_ok-points.ensures.points in
-    let here = subst (λ ps. AreAllPoints (design_view c.in_ok-design.field-0.design) (machines_in score) ps) (sym c.deref.ensures) all in
-    OnOk-map c.write.result (score_is_done score read.sources _ _ _ _ before middle later after (has_listed score before read.sources _ _ read.gathered read.stands all) read.names effects.files kept (db.scored (machines_in score) here) c.in_ok-text.ensures.text) c.write.ensures.written
+    OnOk-map c.write.result (score_is_done score read.sources _ _ _ _ before middle later after (has_listed score before read.sources _ _ _ (machines_are score _ _ _ c.in_ok-states.ensures.named c.in_ok-states.ensures.drawn c.draw_machines.ensures.named c.in_ok-draw_machines.ensures.drawn c.in_ok-draw_machines.ensures.placed) read.gathered read.stands c.in_ok-points.ensures.points) read.names effects.files kept (db.scored _ c.in_ok-points.ensures.points) c.in_ok-text.ensures.text) c.write.ensures.written
 
 pub returns-in_err-text-clause-others : goal.returns-in_err-text-clause-others
 returns-in_err-text-clause-others g c =
@@ -119,7 +133,7 @@ returns-clause-fault g c =
     let after = g.H.Host.outside c.write.new.host in
     let counts = CountsUp-trans before middle later c.in_ok-design.ensures.effects.counts c.in_ok-db.ensures.effects.counts in
     let read = c.in_ok-design.ensures.read in
-    IfErr-map c.write.result (writing_stands score before later after (read.sources, _, has_listed score before read.sources _ _ read.gathered read.stands (listed_with score _ _ _ c.in_ok-states.ensures c.in_ok-points.ensures.points)) counts c.write.ensures.counts) c.write.ensures.fault
+    IfErr-map c.write.result (writing_stands score before later after (read.sources, _, has_listed score before read.sources _ _ _ (machines_are score _ _ _ c.in_ok-states.ensures.named c.in_ok-states.ensures.drawn c.draw_machines.ensures.named c.in_ok-draw_machines.ensures.drawn c.in_ok-draw_machines.ensures.placed) read.gathered read.stands c.in_ok-points.ensures.points) counts c.write.ensures.counts) c.write.ensures.fault
 
 pub returns-clause-early : goal.returns-clause-early
 returns-clause-early g c =

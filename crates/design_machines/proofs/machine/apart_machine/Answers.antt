@@ -37,6 +37,7 @@ returns-in_ok-whole_machine-in-None-clause-machine c =
         names = e.3;
         values = rw (e.0, e.2, e.4) c.requires.values;
         apart = subst AreApart (c.as_slice-2.ensures.value ∙ sym e.4) c.in-None.ensures.none;
+        leaving = e.5;
       },
       e.0,
     )

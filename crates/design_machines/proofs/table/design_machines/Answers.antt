@@ -11,7 +11,7 @@ use Rattle.design_machines.proofs.table.design_machines.Goals as goal
 pub returns-in_err-push_machines-in-Some-clause-fault : goal.returns-in_err-push_machines-in-Some-clause-fault
 returns-in_err-push_machines-in-Some-clause-fault c = λ f e.
     let d = design_view c.args.design.now in
-    let ms = c.args.states.now in
+    let ms = c.args.states.now.named in
     let k = c.loop-place.place in
     let there : k < length ms = omega (arith, c.loop-place-test.true, c.len-place-end.ensures) in
     let m = machine_seen c.in-Some.named in
@@ -23,7 +23,7 @@ returns-in_err-push_machines-in-Some-clause-fault c = λ f e.
 pub loop-place-preserved : goal.loop-place-preserved
 loop-place-preserved c =
     let d = design_view c.args.design.now in
-    let ms = c.args.states.now in
+    let ms = c.args.states.now.named in
     let k = c.loop-place.place in
     let m = machine_seen c.in-Some.named in
     let there : k < length ms = omega (arith, c.loop-place-test.true, c.len-place-end.ensures) in

@@ -5,4 +5,4 @@ use Rattle.design_machines.proofs.table.design_machines.Given as goal
 
 -- the machines so far
 abbrev pub invariant-loop-place : goal.invariant-loop-place
-invariant-loop-place l = AreMachines (design_view l.design) (take l.place l.states) l.found.items
+invariant-loop-place l = AreMachines (design_view l.design) (take l.place l.states.named) l.found.items
