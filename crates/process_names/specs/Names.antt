@@ -58,7 +58,7 @@ abbrev mutual
   all_body_names no_stmts = []
   all_body_names (a_stmt s ss) = body_names s ++ all_body_names ss
 
-  -- the labels, and behind those of an arm its statement
+  -- the labels, and after those of an arm its statement
   pub arm_names : Arms → List ℕ
   arm_names no_arms = []
   arm_names (arm labels s arms) = all_term_names labels ++ (if is_default labels then [] else body_names s) ++ arm_names arms

@@ -67,7 +67,7 @@ fn push_stmts(stmts: &[Stmt], found: &mut Vec<u32>) -> Result<(), NoMemory>
     Ok(())
 }
 
-/// Adds what the labels of a case mention, and behind those of an arm what its statement mentions, but not what the
+/// Adds what the labels of a case mention, and after those of an arm what its statement mentions, but not what the
 /// default mentions.
 #[cycle(statements)]
 fn push_arms(arms: &[CaseArm], found: &mut Vec<u32>) -> Result<(), NoMemory>
