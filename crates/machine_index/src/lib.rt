@@ -1,8 +1,6 @@
-//! The state machines of a signal, and the state that has a value.
+//! The state machines of each signal.
 #![tactic(auto)]
 
 mod index;
-mod value;
 
 pub use index::MachineIndex;
-pub use value::state_of;
