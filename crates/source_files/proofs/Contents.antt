@@ -62,11 +62,13 @@ same_refusal sources name bytes text content =
     ]
 
 bytes_fit : (sources : List SourceText) (name : List ℕ) (bytes : ℕ) → refusal_of sources name bytes ≡ None → bytes ≤ 67108864
-bytes_fit sources name bytes none = go (nat_lt 67108864 (total_length sources + bytes)) refl none
+bytes_fit sources name bytes none = go (length sources == 256) (nat_lt 67108864 (total_length sources + bytes)) refl none
   where
-    go : (test : Bool) → nat_lt 67108864 (total_length sources + bytes) ≡ test → (if test then Some (lex_fault.At SourcesTooLong None (Some name)) else if length sources == 256 then Some (lex_fault.At TooManySources None (Some name)) else None) ≡ None → bytes ≤ 67108864
-    go true is none = absurd cc
-    go false is none = grind (arith, nat_tests)
+    go : (many long : Bool) → nat_lt 67108864 (total_length sources + bytes) ≡ long
+        → (if many then Some (lex_fault.At TooManySources None (Some name)) else if long then Some (lex_fault.At SourcesTooLong None (Some name)) else None) ≡ None → bytes ≤ 67108864
+    go true long is none = absurd cc
+    go false true is none = absurd cc
+    go false false is none = grind (arith, nat_tests)
 
 whole_text : (bytes text : List ℕ) → IsContent 67108864 bytes text → length bytes ≤ 67108864 → bytes ≡ text
 whole_text bytes text content short =
@@ -86,10 +88,10 @@ joins before path name bytes root old new read none is =
 
 -- a refusal to add a file tells no place
 no_place : (sources : List SourceText) (name : List ℕ) (bytes : ℕ) (kind : LexKind) (place : Option Place) (detail : Option (List ℕ)) → refusal_of sources name bytes ≡ Some (lex_fault.At kind place detail) → refusal_of sources name bytes ≡ Some (lex_fault.At kind None detail)
-no_place sources name bytes kind place detail is = go (nat_lt 67108864 (total_length sources + bytes)) (length sources == 256) is
+no_place sources name bytes kind place detail is = go (length sources == 256) (nat_lt 67108864 (total_length sources + bytes)) is
   where
-    go : (long many : Bool) → (if long then Some (lex_fault.At SourcesTooLong None (Some name)) else if many then Some (lex_fault.At TooManySources None (Some name)) else None) ≡ Some (lex_fault.At kind place detail)
-        → (if long then Some (lex_fault.At SourcesTooLong None (Some name)) else if many then Some (lex_fault.At TooManySources None (Some name)) else None) ≡ Some (lex_fault.At kind None detail)
+    go : (many long : Bool) → (if many then Some (lex_fault.At TooManySources None (Some name)) else if long then Some (lex_fault.At SourcesTooLong None (Some name)) else None) ≡ Some (lex_fault.At kind place detail)
+        → (if many then Some (lex_fault.At TooManySources None (Some name)) else if long then Some (lex_fault.At SourcesTooLong None (Some name)) else None) ≡ Some (lex_fault.At kind None detail)
     go true many is = cc
     go false true is = cc
     go false false is = absurd cc
@@ -101,13 +103,13 @@ no_fit before path name bytes old kind place detail read refused =
     (t.text, t.is, sym (same_refusal old name bytes t.text t.content) ∙ no_place old name (length bytes) kind place detail refused)
 
 fits_within : (sources : List SourceText) (source : SourceText) → AreWithinLimits sources → refusal_of sources source.name (length source.bytes) ≡ None → AreWithinLimits (sources ++ source ∷ [])
-fits_within sources source within none = go (nat_lt 67108864 (total_length sources + length source.bytes)) (length sources == 256) refl refl none
+fits_within sources source within none = go (length sources == 256) (nat_lt 67108864 (total_length sources + length source.bytes)) refl refl none
   where
-    go : (long many : Bool) → nat_lt 67108864 (total_length sources + length source.bytes) ≡ long → (length sources == 256) ≡ many
-        → (if long then Some (lex_fault.At SourcesTooLong None (Some source.name)) else if many then Some (lex_fault.At TooManySources None (Some source.name)) else None) ≡ None → AreWithinLimits (sources ++ source ∷ [])
-    go true many is other none = absurd cc
-    go false true is other none = absurd cc
-    go false false is other none =
+    go : (many long : Bool) → (length sources == 256) ≡ many → nat_lt 67108864 (total_length sources + length source.bytes) ≡ long
+        → (if many then Some (lex_fault.At TooManySources None (Some source.name)) else if long then Some (lex_fault.At SourcesTooLong None (Some source.name)) else None) ≡ None → AreWithinLimits (sources ++ source ∷ [])
+    go true long other is none = absurd cc
+    go false true other is none = absurd cc
+    go false false other is none =
         let count : length sources ≤ 256 = within.count in
         record {
           count = rw (length-append sources (source ∷ [])) (grind (arith, nat_tests, other, count));

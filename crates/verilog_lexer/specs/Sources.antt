@@ -25,11 +25,11 @@ pub record AreWithinLimits (sources : List SourceText) : Type 0 where
   pub count : length sources ≤ 256
   pub bytes : total_length sources ≤ 67108864
 
--- why a file of this name and length is not added, if it is not
+-- why a file of this name and length is not added, if it is not: it is one too many, or else makes the sources too long
 abbrev pub refusal_of : List SourceText → (name : List ℕ) → (bytes : ℕ) → Option LexFault
 refusal_of sources name bytes =
-    if nat_lt 67108864 (total_length sources + bytes) then Some (lex_fault.At lex_kind.SourcesTooLong None (Some name))
-    else if length sources == 256 then Some (lex_fault.At lex_kind.TooManySources None (Some name))
+    if length sources == 256 then Some (lex_fault.At lex_kind.TooManySources None (Some name))
+    else if nat_lt 67108864 (total_length sources + bytes) then Some (lex_fault.At lex_kind.SourcesTooLong None (Some name))
     else None
 
 -- a fault is this one, if it is not want of memory

@@ -27,7 +27,7 @@ pub enum LexKind {
     TooManyTokens = 8,
     /// An included file that is not among the sources.
     IncludeMissing = 9,
-    /// Sources of more than 67,108,864 bytes together.
+    /// Sources of more than 67,108,864 bytes together, where they are not too many.
     SourcesTooLong = 10,
     /// More than 256 sources.
     TooManySources = 11,

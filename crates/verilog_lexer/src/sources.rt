@@ -100,7 +100,8 @@ impl Sources {
         self.sources.len()
     }
 
-    /// Adds a file that is read by itself. After a refusal nothing has changed.
+    /// Adds a file that is read by itself. After a refusal nothing has changed. One that is too many is refused as such,
+    /// whatever its length.
     pub fn add_root(&mut self, name: &str, bytes: Bytes) -> Result<(), LexFault>
         ensures ok { OnOk result (self.new ≡ self.old ++ record { name = name.now; bytes = bytes; root = true } ∷ []) }
         ensures only { OnOk result (refusal_of self.old name.now (length bytes) ≡ None) }
@@ -110,7 +111,8 @@ impl Sources {
         self.add(name, bytes, true)
     }
 
-    /// Adds a file that is read where a directive names it. After a refusal nothing has changed.
+    /// Adds a file that is read where a directive names it. After a refusal nothing has changed. One that is too many is
+    /// refused as such, whatever its length.
     pub fn add_include(&mut self, name: &str, bytes: Bytes) -> Result<(), LexFault>
         ensures ok { OnOk result (self.new ≡ self.old ++ record { name = name.now; bytes = bytes; root = false } ∷ []) }
         ensures only { OnOk result (refusal_of self.old name.now (length bytes) ≡ None) }
@@ -128,11 +130,11 @@ impl Sources {
         ensures err { OnErr result (self.new ≡ self.old) }
     {
         let length = bytes.len();
-        if length > MOST_BYTES - self.total {
-            return Err(refused(self.alloc, LexKind::SourcesTooLong, name));
-        }
         if self.sources.len() == MOST_SOURCES {
             return Err(refused(self.alloc, LexKind::TooManySources, name));
+        }
+        if length > MOST_BYTES - self.total {
+            return Err(refused(self.alloc, LexKind::SourcesTooLong, name));
         }
         let name = String::from_str(self.alloc, name)?;
         self.sources.push(Source { name, bytes, root })?;

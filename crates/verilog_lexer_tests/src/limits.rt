@@ -112,21 +112,36 @@ fn blank_sources(alloc: Global, files: usize, count: usize) -> Option<Sources> {
     Some(sources)
 }
 
-/// Whether one more such source is refused.
-fn refuses_one_more(alloc: Global, files: usize, count: usize, kind: LexKind) -> Option<bool> {
+/// Whether a source of `last` blanks is refused after so many sources of `count` blanks each.
+fn refuses_after(
+    alloc: Global,
+    files: usize,
+    count: usize,
+    last: usize,
+    kind: LexKind,
+) -> Option<bool> {
     let mut sources = blank_sources(alloc, files, count)?;
-    let bytes = blanks(alloc, count)?;
+    let bytes = blanks(alloc, last)?;
     Some(is_not_added(sources.add_root("m.v", bytes), kind))
 }
 
 #[test]
 fn no_source_is_added_past_the_limit(rt: HostRuntime) {
     // example case too-many-sources
-    assert!(rt; refuses_one_more(rt.alloc(), 256, 0, LexKind::TooManySources) == Some(true));
+    assert!(rt; refuses_after(rt.alloc(), 256, 0, 0, LexKind::TooManySources) == Some(true));
 }
 
 #[test]
 fn sources_are_no_longer_than_the_most(rt: HostRuntime) {
     // example case sources-too-long
-    assert!(rt; refuses_one_more(rt.alloc(), 255, 262_145, LexKind::SourcesTooLong) == Some(true));
+    assert!(rt;
+        refuses_after(rt.alloc(), 255, 262_145, 262_145, LexKind::SourcesTooLong) == Some(true)
+    );
+}
+
+#[test]
+fn a_source_past_both_limits_is_one_too_many(rt: HostRuntime) {
+    let alloc = rt.alloc();
+    assert!(rt; refuses_after(alloc, 256, 0, 67_108_865, LexKind::TooManySources) == Some(true));
+    assert!(rt; refuses_after(alloc, 255, 0, 67_108_865, LexKind::SourcesTooLong) == Some(true));
 }
