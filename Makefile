@@ -12,8 +12,8 @@
 PREFIX ?= /usr/local
 PROGRAM = crates/covered/out/covered
 STAGE = machines-late
-# parts of later stages that are already there: dumps, bindings, merge and report
-AHEAD = merge-report pieces
+# parts of later stages that are already there: dumps, bindings, merge and report, drawn arcs
+AHEAD = merge-report pieces arcs
 PADS = examples/pads
 ALU = examples/alu
 UART = examples/uart
