@@ -40,7 +40,8 @@ example: build
 	  && $$COVERED merge -o all.db sent.db aborted.db && $$COVERED report -d v all.db
 	cd $(DOOR) && COVERED=../../$(PROGRAM) \
 	  && $$COVERED score -t door -i tb.dut -v door.v -vcd door.vcd -o late.db -late -states door=state:CLOSED,OPENING,OPEN,CLOSING \
-	  && $$COVERED report -d v late.db
+	  && $$COVERED report -d v late.db \
+	  && $$COVERED score -t door -i tb.dut -v door.v -vcd door.vcd -o drawn.db -F door=state,state && $$COVERED report -m f -d d drawn.db
 	cd $(FIFO) && COVERED=../../$(PROGRAM) \
 	  && $$COVERED score -t fifo -i tb.dut -v fifo.v -vcd some.vcd -o some.db \
 	  && $$COVERED score -t fifo -i tb.dut -v fifo.v -vcd filled.vcd -o filled.db \
