@@ -48,11 +48,22 @@ fn found_points(alloc: Global, machines: &[Machine]) -> Result<Vec<MachinePoint>
 {
     let mut found = Vec::new(alloc);
     for (number, machine) in machines.iter().enumerate() {
-        let count = number_of(0, machine.names.len())?;
-        let leaving = number_of(0, machine.leaving)?;
-        push_machine(number_of(0, number)?, leaving, count, &mut found)?;
+        push_points(number, machine, &mut found)?;
     }
     Ok(found)
+}
+
+/// Adds the states and arcs of a machine with its number.
+fn push_points(
+    number: usize,
+    machine: &Machine,
+    found: &mut Vec<MachinePoint>,
+) -> Result<(), NoMemory>
+    ensures { OnOk result (found.new.items ≡ found.old.items ++ points_of_machine number machine.now) }
+{
+    let count = number_of(0, machine.names.len())?;
+    let leaving = number_of(0, machine.leaving)?;
+    push_machine(number_of(0, number)?, leaving, count, found)
 }
 
 /// Adds the states of a machine, and then its arcs.
