@@ -13,14 +13,12 @@ use Rattle.cover_points.specs.design_machines.Machines.{AreMachines}
 use Rattle.cover_points.specs.design_machines.declared.fault.StateFault.{StateFault}
 use Rattle.cover_points.specs.design_machines.declared.fault.StateFault.TheVariants.{NoMemory, NoState, SameState, TooManyStates}
 use Rattle.cover_points.specs.design_machines.state_machines.Drawn.{AreAlike}
-use Rattle.cover_points.specs.design_machines.state_machines.Machines.{no_machine}
+use Rattle.cover_points.specs.design_machines.state_machines.Machines.{StateMachines, no_machine}
 use Rattle.cover_points.specs.design_machines.state_machines.Same.{HasBefore}
 use Rattle.cover_points.specs.design_machines.state_machines.Values.{IsNamedSignal}
 use Rattle.design_model.specs.Design.{Design, In}
 use Rattle.design_model.specs.Lawful.{IsLawfulDesign}
 use Rattle.design_model.specs.Points.{IsInstanceOf, IsStateValue, StateNames}
-use Rattle.cover_points.specs.design_machines.state_machines.Drawn.{AreAlike}
-use Rattle.cover_points.specs.design_machines.state_machines.Machines.{StateMachines}
 use Rattle.design_model.specs.four_state.Vector.{Vector}
 use Rattle.design_points.specs.Counted.{HasFewPoints}
 use Rattle.design_points.proofs.Counts.{few_or_many}

@@ -1,11 +1,13 @@
 -- What the instances of a design draw, one by one.
-use Rattle.std.proofs.Common.{◌≡◌, ◌⊎◌, ◌↔◌, ◌<◌, ◌+◌, ◌^◌, ◌++◌, ℕ, zero, suc, ◌/◌, ◌%◌, ◌==◌, ◌&&◌, Bool, true, false, inl, inr, List, [], ◌∷◌, length, map, get_or, refl, sym, ap, subst, ◌∙◌, arith}
+use Rattle.std.proofs.Common.{◌≡◌, ◌≢◌, ◌⊎◌, ◌↔◌, ◌<◌, ◌+◌, ◌^◌, ◌++◌, ℕ, zero, suc, ◌/◌, ◌%◌, ◌==◌, ◌&&◌, Bool, true, false, inl, inr, List, [], ◌∷◌, Result, Err, length, map, get_or, refl, sym, ap, subst, ◌∙◌, arith}
 use Rattle.std.specs.List.{Contains}
-use Rattle.std.proofs.lemmas.Bool.{cases_lt}
+use Rattle.std.proofs.lemmas.Bool.{cases_lt, false≢true}
 use Rattle.design_model.specs.Design.{Design, In, signal_at}
 use Rattle.design_model.specs.Points.{IsInstanceOf, IsNameOf}
 use Rattle.fsm_extract.specs.Arcs.{IsArc, IsState}
-use Rattle.fsm_extract.specs.Fault.{IsMachine}
+use Rattle.fsm_extract.specs.Fault.{IsMachine, NamesNone, NamesNoneAs}
+use Rattle.fsm_extract.specs.declared.names.MachineFault.{MachineFault}
+use Rattle.fsm_extract.specs.declared.names.MachineFault.TheVariants as machine_fault
 use Rattle.fsm_extract.specs.declared.names.MachinePart.{MachinePart}
 use Rattle.fsm_extract.specs.declared.names.MachinePart.TheVariants as parts
 use Rattle.state_machines.specs.declared.drawn.Drawn.{Drawn}
@@ -14,6 +16,7 @@ use Rattle.state_machines.specs.Machines.{drawn_of}
 use Rattle.state_machines.specs.Values.{IsNamedSignal}
 use Rattle.four_state.specs.Arithmetic.{low_bits}
 use Rattle.four_state.specs.Vector.{all_known, bit_of, is_known}
+use Rattle.drawn_machines.specs.declared.fault.DrawFault.{DrawFault}
 use Rattle.drawn_machines.specs.Drawing.{AreDrawings, AreDrawnIn, AreDrawnOf, AreNumberPairs, AreNumbers, HasMachine, IsDrawing, IsDrawnIn, IsDrawnOf, IsNoMachine, IsNoMachineIn, IsPlaced, arc_drawn, arcs_drawn, number_value, state_drawn, states_drawn}
 
 -- e is drawn in an instance with a number below n
@@ -148,6 +151,51 @@ pub no_machine_at : (d : Design) (of_module current next : List ℕ) (n : ℕ) (
 no_machine_at d of_module current next n parts.Module is fault before = absurd fault
 no_machine_at d of_module current next n parts.In is fault before = (n, is, fault, before)
 no_machine_at d of_module current next n parts.Out is fault before = (n, is, fault, before)
+
+-- a name at fault in an instance, as `find` says it
+pub no_machine_in : (d : Design) (of_module current next : List ℕ) (i : ℕ) (found : Result (ℕ × ℕ) MachineFault) (at part : MachinePart)
+    → (found ≡ Err (machine_fault.NoMachine parts.In) → IsInstanceOf d i of_module × NamesNone d i current)
+    → (found ≡ Err (machine_fault.NoMachine parts.Out) → IsInstanceOf d i of_module × (s : ℕ) × IsNamedSignal d i current s × NamesNoneAs d i next s)
+    → (at ≢ parts.Module) → found ≡ Err (machine_fault.NoMachine at) → at ≡ part → IsInstanceOf d i of_module × IsNoMachineIn d current next i part
+no_machine_in d of_module current next i found parts.Module part of_in of_out other is same = absurd (other refl)
+no_machine_in d of_module current next i found parts.In part of_in of_out other is same = subst (λ (p : MachinePart). IsInstanceOf d i of_module × IsNoMachineIn d current next i p) same (of_in is)
+no_machine_in d of_module current next i found parts.Out part of_in of_out other is same = subst (λ (p : MachinePart). IsInstanceOf d i of_module × IsNoMachineIn d current next i p) same (of_out is)
+
+-- a fault that a call hands on
+pub handed_on : {T : Type 0} (r : Result T DrawFault) (x y f : DrawFault) → r ≡ Err y → y ≡ x → r ≡ Err f → x ≡ f
+handed_on r x y f a b e =
+    let both : Err y ≡ Err f = sym a ∙ e in
+    let same : y ≡ f = cc in
+    sym b ∙ same
+
+-- ---- whether the module has an instance
+
+-- an instance with a number below n is of the module
+abbrev pub IsSomeBelow : Design → List ℕ → ℕ → Type 0
+IsSomeBelow d of_module n = (i : ℕ) × (i < n) × IsInstanceOf d i of_module
+
+pub some_here : (d : Design) (of_module : List ℕ) (n : ℕ) (new : Bool) → new ≡ true → IsInstanceOf d n of_module → (new ≡ true) ↔ IsSomeBelow d of_module (n + 1)
+some_here d of_module n new e is = (λ t. (n, omega arith, is), λ h. e)
+
+pub some_before : (d : Design) (of_module : List ℕ) (n : ℕ) (old new : Bool) → new ≡ old → (IsInstanceOf d n of_module → ⊥) → ((old ≡ true) ↔ IsSomeBelow d of_module n) → (new ≡ true) ↔ IsSomeBelow d of_module (n + 1)
+some_before d of_module n old new e other has = (λ t. let r = has.0 (sym e ∙ t) in (r.0, omega (arith, r.1), r.2), back)
+  where
+    back : IsSomeBelow d of_module (n + 1) → new ≡ true
+    back h = elim (cases_lt h.0 n) [
+      | inl l ↦ e ∙ has.1 (h.0, l, h.2)
+      | inr m ↦ (let same : h.0 ≡ n = omega (arith, h.1) in absurd (other (subst (λ k. IsInstanceOf d k of_module) same h.2)))
+    ]
+
+-- ---- once all instances are looked at
+
+pub placed_all : (d : Design) (of_module current next : List ℕ) (n : ℕ) → n ≡ length d.instances → ((i : ℕ) → i < n → IsInstanceOf d i of_module → HasMachine d of_module current next i) → IsSomeBelow d of_module n → IsPlaced d of_module current next
+placed_all d of_module current next n whole each some = record { some = (some.0, some.2); all = λ i is. each i (omega (arith, whole, is.0)) is }
+
+pub no_module : (d : Design) (of_module : List ℕ) (n : ℕ) (has : Bool) → n ≡ length d.instances → ((has ≡ true) ↔ IsSomeBelow d of_module n) → has ≡ false → (i : ℕ) → IsInstanceOf d i of_module → ⊥
+no_module d of_module n has whole some none i is = false≢true (sym none ∙ some.1 (i, omega (arith, whole, is.0), is))
+
+pub all_drawings : (d : Design) (of_module current next : List ℕ) (n : ℕ) (es : List Drawn) → n ≡ length d.instances → ((e : Drawn) → In e es ↔ IsDrawnBelow d of_module current next n e) → AreDrawings d of_module current next es
+all_drawings d of_module current next n es whole are = whole_drawn d of_module current next es (subst (λ k. (e : Drawn) → In e es ↔ IsDrawnBelow d of_module current next k e) whole are)
 
 -- ---- what follows from the definitions
 

@@ -10,7 +10,7 @@ use Rattle.std.proofs.lemmas.List.{get_or_past}
 use Rattle.coverage_db.specs.Order.{bytes_cmp, index_cmp as option_cmp}
 use Rattle.coverage_db.specs.Table.{IsIdentifier, IsSubject}
 use Rattle.point_table.specs.cover_points.Listed.{IsPointList}
-use Rattle.point_table.specs.cover_points.MachinePoints.{machine_of, machine_view}
+use Rattle.point_table.specs.cover_points.MachinePoints.{machine_of, machine_view, state_value}
 use Rattle.point_table.specs.cover_points.Order.{thing_instance, thing_name}
 use Rattle.point_table.specs.cover_points.Texts.{line_view, node_view}
 use Rattle.point_table.specs.cover_points.Things.{toggle_view, word_view}
@@ -218,7 +218,7 @@ module _ (d : Design) (lawful : IsLawfulDesign d) (sources : List (List ℕ)) (w
     -- the two states of an arc have different names
     names_differ : (k i j : ℕ) → IsPointWith d machines (machine_view ps.machines.items (Arc k i j)) → name_at (machine_at ps.machines.items k).names i ≢ name_at (machine_at ps.machines.items k).names j
     names_differ k i j (inl p) = p.5
-    names_differ k i j (inr p) same = p.8 (digits_apart _ _ (sym p.4 ∙ same ∙ p.5))
+    names_differ k i j (inr p) = λ same. p.8 (digits_apart (state_value ps.machines.items k i) (state_value ps.machines.items k j) (sym p.4 ∙ same ∙ p.5))
 
     pub machine_is : (x : MachinePoint) → In x ps.states.items → ((machine_at ps.machines.items (machine_of x)).instance < length d.instances) × IsSubject (length sources) (machine_address ps.machines.items places x).subject
     machine_is (State k s) h =

@@ -83,9 +83,9 @@ module _ (d : Design) (lawful : IsLawfulDesign d) where
   point_signal : (ms : StateMachines) (x : Point) (s : ℕ) → IsPointWith d ms x → IsPointOn x s → Below s
   point_signal ms (point.Toggle q i rise) s is on = omega (arith, is.0, on)
   point_signal ms (point.State i name q state x) s (inl is) on = subst Below on (named_signal i name q is.2.2)
-  point_signal ms (point.State i name q state x) s (inr is) on = subst Below (sym is.3.2 ∙ on) (drawn_signal is.0 is.2)
+  point_signal ms (point.State i name q state x) s (inr is) on = subst Below (is.3.2 ∙ on) (drawn_signal is.0 is.2)
   point_signal ms (point.Arc i name q from to x y) s (inl is) on = subst Below on (named_signal i name q is.2.2)
-  point_signal ms (point.Arc i name q from to x y) s (inr is) on = subst Below (sym is.3.2 ∙ on) (drawn_signal is.0 is.2)
+  point_signal ms (point.Arc i name q from to x y) s (inr is) on = subst Below (is.3.2 ∙ on) (drawn_signal is.0 is.2)
   point_signal ms (point.Line p n at w) s is on = absurd on
   point_signal ms (point.Logic p n at op c) s is on = absurd on
   point_signal ms (point.Word m i write) s is on = absurd on
