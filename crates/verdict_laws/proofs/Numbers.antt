@@ -1,5 +1,5 @@
 -- What is in doubt is a signal or a memory of the design, at a time before the last that the dump lists.
-use Rattle.std.proofs.Common.{◌≡◌, ◌<◌, ◌+◌, ◌&&◌, ◌==◌, ⊎_elim, ℕ, Bool, true, List, [], ◌∷◌, length, inl, inr, refl, subst, arith}
+use Rattle.std.proofs.Common.{◌∙◌, ◌≡◌, ◌<◌, ◌+◌, ◌&&◌, ◌==◌, ⊎_elim, ℕ, Bool, true, List, [], ◌∷◌, length, inl, inr, refl, subst, arith}
 use Rattle.std.specs.Prelude.{nat_lt}
 use Rattle.std.specs.List.{list_all, list_any}
 use Rattle.std.proofs.lemmas.Bool.{and_parts, eqb-true, ltb-true, or_cases, false≢true}
