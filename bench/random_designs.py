@@ -1,7 +1,7 @@
 #!/usr/bin/env python3
 """Scores random designs under random dumps of their simulation, and checks each database.
 
-    bench/random_designs.py PROGRAM [--clocked] [--machines] [--memories] [--late] [--runs N] [--seed S] [--dumps K]
+    bench/random_designs.py PROGRAM [--clocked] [--machines] [--drawn] [--memories] [--late] [--runs N] [--seed S] [--dumps K]
         [--out FOLDER] [--verbose]
 
 Each run makes a design of continuous assignments and combinational blocks and a bench that moves its inputs, simulates it by
@@ -19,6 +19,13 @@ combinational blocks make, and decoded signals. The words `-states` name most of
 and ports below, with parameters of different values, of which a variable may also have none, or never that of a state. At times an
 earlier machine of the same variable is named, which a later one replaces, whatever it says; and at times the last has a fault.
 
+With `--drawn` there are cases from which the words `-F` draw state machines: over registers with a next state of their own or without,
+over inputs, nets and ports, also where both signals are ports of a module below that are joined to names above it, or to one. Labels
+and values are numbers of any width and sign, parameters, loop variables and operators on them, at times with x or z, too large, or no
+constant; some cases are `casez` or over part of the signal, some targets are parts, and in an arm may be tests, loops and more cases,
+also over the same signal. The words name most pairs of signals that are so written, in each module that has names for both, and some
+other pairs, at times one twice; and at times one or two have a fault.
+
 With `--late`, which implies `--clocked`, the bench keeps to the late habit, and so do the other runs: in a step with an edge that
 wakes a block, an input that is no event signal moves after the last of these, once nothing more is to be done. Mostly it moves by a
 nonblocking assignment. The dump is scored with `-late`, and those of every other design without it too, with three runs more of the
@@ -26,8 +33,9 @@ free habit: then what is decided without `-late` must be decided the same with i
 
 Checked is:
 
-- the status is 0, and the database lists the points of the design, with the states and arcs of each machine in each instance;
-  words that name no machine of the design are refused with the message of their first fault;
+- the status is 0, and the database lists the points of the design, with the states and arcs of each machine in each instance, which
+  for a drawn one are taken from the trees that the design was written from; words that name no machine of the design are refused
+  with the message of their first fault;
 - a point that is marked hit is hit in the simulation, which probes in a copy of the design report (also of the words that are
   read and written), and one that is marked missed is not; the same in other simulations, with other orders and other values of
   what is not decided, where these show the same dump: one, or three of a design with clocked blocks. That a verdict holds in
@@ -89,7 +97,8 @@ def keep(program, case, fault, folder):
 def run(program, seed, options, counts, work):
     """Whether the design of a seed has no fault under any of its dumps."""
     is_clocked = options.clocked or options.late
-    case, choices, altered = random_case(seed, options.dumps, is_clocked, options.memories, options.machines, options.late)
+    asked = is_clocked, options.memories, options.machines, options.drawn, options.late
+    case, choices, altered = random_case(seed, options.dumps, *asked)
     trial = Trial(program, work, case, [*choices, case.names])
     try:
         trial.build()
@@ -118,11 +127,12 @@ def run(program, seed, options, counts, work):
 def summary(options, counts, faulty):
     """The counts of all runs: first those of the checks, then what nothing was said of."""
     scored, second, refused = (counts.pop(word, 0) for word in ("scored", "other runs", "contradicted"))
-    verdicts, words = (", ".join(f"{counts.pop(before + word, 0)} {word}" for word in ("hit", "missed", "undetermined"))
-                       for before in ("", "words "))
+    verdicts, words, drawn = (", ".join(f"{counts.pop(before + word, 0)} {word}" for word in ("hit", "missed", "undetermined"))
+                              for before in ("", "words ", "drawn "))
     kind = ("clocked designs" if options.clocked or options.late else "designs") + (" with memories" if options.memories else "")
     lines = [f"{options.runs} {kind} from seed {options.seed}: {scored} dumps scored and {second} other runs that show them",
-             f"points: {verdicts}" + (f"; of them words of memories: {words}" if options.memories else ""),
+             f"points: {verdicts}" + (f"; of them words of memories: {words}" if options.memories else "")
+             + (f"; of them drawn states and arcs: {drawn}" if options.drawn else ""),
              f"altered dumps: {refused} refused"]
     lines += [", ".join(f"{n} {word}" for word, n in counts.items())] if counts else []
     return "\n".join([*lines, f"{faulty} designs with a fault"])
@@ -133,6 +143,7 @@ def main():
     parser.add_argument("program")
     parser.add_argument("--clocked", action="store_true")
     parser.add_argument("--machines", action="store_true")
+    parser.add_argument("--drawn", action="store_true")
     parser.add_argument("--late", action="store_true")
     parser.add_argument("--memories", action="store_true")
     parser.add_argument("--runs", type=int, default=100)

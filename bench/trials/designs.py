@@ -126,7 +126,10 @@ class Plain:
 
 @dataclass
 class Module:
-    """A module. `ansi` says whether its head declares the ports, and `clocks` which of them are there for clocks and resets."""
+    """A module. `ansi` says whether its head declares the ports, and `clocks` which of them are there for clocks and resets.
+
+    `states` has two ports, an input for a state and the output for the next one, if the module is there for these.
+    """
     name: str
     params: list = field(default_factory=list)
     ports: list = field(default_factory=list)
@@ -135,6 +138,7 @@ class Module:
     ansi: bool = True
     source: int = 1
     clocks: list = field(default_factory=list)
+    states: list = field(default_factory=list)
 
     def everything_declared(self):
         return self.ports + self.declared + [item.declared for item in self.items if isinstance(item, Assign) and item.declared]

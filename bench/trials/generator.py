@@ -1,5 +1,6 @@
 """Random designs: modules from the lowest up, the top last."""
 from .designs import Assign, Clocked, Declared, Instance, Module, NoSignals, Param, Scope, evaluated
+from .drawing_kinds import add_state_ports, drawing_kinds, put_state_block
 from .expressions import Expressions, random_number
 from .kinds import KINDS, declared_bounds, random_range
 from .machine_kinds import machine_kinds, module_words
@@ -182,10 +183,14 @@ def variant_constants(module, variant):
     return constants
 
 
-def add_items(builder, count, machines):
-    """Adds items to a module, with state machines and their words where these are wanted."""
+def add_items(builder, count, machines, drawn):
+    """Adds items to a module, with state machines and their words, and with cases that draw machines, where these are wanted."""
     if machines is not None:
         builder.more_kinds += machine_kinds(builder.module)
+    if drawn:
+        builder.more_kinds += drawing_kinds(builder.module)
+    if builder.module.states:
+        put_state_block(builder)
     builder.add_items(count)
     if machines is not None:
         machines += module_words(builder)
@@ -196,10 +201,10 @@ def has_clocked(module):
     return any(isinstance(item, Clocked) or isinstance(item, Instance) and has_clocked(item.module) for item in module.items)
 
 
-def random_design(chance, clocked=False, memories=False, machines=None):
+def random_design(chance, clocked=False, memories=False, machines=None, drawn=False):
     """A list of modules, the top last; `clocked` ones have clocked blocks, and those with `memories` at least one memory.
 
-    `machines`, if there is a list, gets words for state machines.
+    `machines`, if there is a list, gets words for state machines. With `drawn` there are cases that draw machines.
     """
     modules = []
     for number in range(chance.choice([0, 0, 0, 1, 1, 2, 3])):
@@ -207,8 +212,10 @@ def random_design(chance, clocked=False, memories=False, machines=None):
         variants = builder.add_params()
         if clocked and chance.random() < 0.8:
             builder.add_clocks()
+        if drawn and chance.random() < 0.6:
+            add_state_ports(builder)
         builder.add_ports(chance.randrange(1, 5), chance.randrange(1, 4))
-        add_items(builder, chance.randrange(1, 5), machines)
+        add_items(builder, chance.randrange(1, 5), machines, drawn)
         modules = [*modules, (builder.module, variants)]
     builder = Builder(chance, chance.choice(["top", "chip", "m"]), modules, memories)
     builder.add_params()
@@ -218,7 +225,9 @@ def random_design(chance, clocked=False, memories=False, machines=None):
     builder.add_ports(chance.randrange(1, 6), chance.randrange(1, 5))
     if memories:
         (chance.choice(CLOCKED_MEMORY_KINDS[:2]) if clocked else MEMORY_KINDS[0]).add(builder)
-    add_items(builder, chance.choice([1, 2, 3, 4, 6, 9, 12, 20]), machines)
+    if drawn:
+        chance.choice(drawing_kinds(builder.module)).add(builder)
+    add_items(builder, chance.choice([1, 2, 3, 4, 6, 9, 12, 20]), machines, drawn)
     if clocked and not has_clocked(builder.module):
         Registers().add(builder)
     design = [module for module, _ in modules] + [builder.module]

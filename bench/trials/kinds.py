@@ -191,15 +191,19 @@ class Below(Kind):
     weight = 14
 
     def add(self, builder):
+        if builder.modules:
+            module, variants = builder.chance.choice(builder.modules)
+            self.put(builder, module, builder.chance.choice(variants), {})
+
+    def put(self, builder, module, variant, joined):
+        """An instance of the module in this variant; `joined` has the names to which some ports are joined."""
         chance = builder.chance
-        if not builder.modules:
-            return
-        module, variants = chance.choice(builder.modules)
-        variant = chance.choice(variants)
         item = Instance(module, builder.new_name("u"), {}, dict(variant), chance.random() < 0.7, chance.random() < 0.7)
         made = []
         for port in module.ports:
-            if port.direction == "input":
+            if port.name in joined:
+                item.connections[port.name] = Name(joined[port.name])
+            elif port.direction == "input":
                 clock = self.clock(builder) if port.name in module.clocks else None
                 item.connections[port.name] = clock or self.input(builder, port, variant)
             else:

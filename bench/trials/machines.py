@@ -13,11 +13,15 @@ from .things import Memory, Signal
 
 @dataclass(eq=False)
 class Machine:
-    """A machine in one instance: the name of its variable there, the signal that it names, and the value of each state."""
+    """A machine in one instance: the name of its variable there, the signal that it names, the value of each state, and the arcs.
+
+    An arc is a pair of names of states.
+    """
     path: str
     name: str
     signal: Signal
     states: dict
+    arcs: list
 
 
 def command_words(words):
@@ -72,7 +76,7 @@ def machines_of(flat, words):
         for made in instances_of(flat, module):
             signal = made.scope.find(variable)
             states = {name: state_value(made.scope.find(name), signal.width) for name in names}
-            found.append(Machine(made.path, variable, signal, states))
+            found.append(Machine(made.path, variable, signal, states, list(permutations(states, 2))))
     return found
 
 
@@ -81,7 +85,7 @@ def machine_points(machine):
     head, order = f"f {machine.path} {machine.name}", (3, machine.path, machine.name)
     for name, value in machine.states.items():
         yield f"{head} {name}", (*order, 0, name), ("s", value)
-    for first, second in permutations(machine.states, 2):
+    for first, second in machine.arcs:
         yield f"{head} {first} {second}", (*order, 1, first, second), ("a", machine.states[first], machine.states[second])
 
 

@@ -4,6 +4,7 @@ from dataclasses import replace
 
 from .bodies import listed_names
 from .designs import Always, Clocked, Comb, Instance
+from .drawings import fewer_drawings
 from .machines import fewer_machines
 from .statements import Block, Case as CaseStatement, For, If
 from .texts import module_statements
@@ -12,6 +13,7 @@ from .texts import module_statements
 def smaller_cases(case):
     """Cases with one thing less: a name of the dump, a step, a move, an item, a statement, or a part of an expression."""
     yield from fewer_machines(case)
+    yield from fewer_drawings(case)
     yield from fewer_modules(case)
     yield from fewer_items(case)
     yield from fewer_steps(case)
@@ -100,6 +102,10 @@ def replacements(statement):
     if isinstance(statement, CaseStatement) and len(statement.arms) > 1:
         for k in range(len(statement.arms)):
             yield lambda it, k=k: it.arms.pop(k)
+    if isinstance(statement, CaseStatement):
+        for k, arm in enumerate(statement.arms):
+            for j in range(len(arm.labels) if len(arm.labels) > 1 else 0):
+                yield lambda it, k=k, j=j: it.arms[k].labels.pop(j)
 
 
 def pulled_up(statement):

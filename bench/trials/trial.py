@@ -5,11 +5,12 @@ import subprocess
 from collections import Counter
 from dataclasses import dataclass, field, replace
 
-from . import habits, icarus, laws
+from . import drawings, habits, icarus, laws
 from .clocks import clocked_stimuli
 from .copies import Copy, in_bench
 from .designs import Flat
 from .doubts import Doubts
+from .drawing_kinds import random_drawings
 from .generator import random_design
 from .habits import FREE, LATE
 from .machine_kinds import random_words
@@ -38,7 +39,8 @@ class Case:
 
     `seed` gives other runs, and the noise of the dump with `noisy`. With `altered`, two numbers, a bit of the dump is not
     that of the simulation; the numbers choose which. A `clocked` design has three other runs. `machines` are the words that name
-    state machines. The bench keeps to the first of the `habits`, and each dump is scored under all of them.
+    state machines, and `drawings` those that draw them. The bench keeps to the first of the `habits`, and each dump is scored under
+    all of them.
     """
     design: list
     stimuli: object
@@ -48,6 +50,7 @@ class Case:
     altered: tuple = None
     clocked: bool = False
     machines: list = field(default_factory=list)
+    drawings: list = field(default_factory=list)
     habits: tuple = (FREE,)
 
     def others(self, flat):
@@ -108,8 +111,9 @@ class Trial:
             module.number()
         self.sources = {f"part{number}.v": text for number, text in source_texts(case.design).items()}
         self.flat = Flat(case.design[-1])
-        self.refusal = machine_fault(self.flat, case.machines)
-        self.flat.machines = [] if self.refusal else machines_of(self.flat, case.machines)
+        self.refusal = drawings.drawing_fault(self.flat, case.drawings) or machine_fault(self.flat, case.machines)
+        if not self.refusal:
+            self.flat.machines = machines_of(self.flat, case.machines) + drawings.drawn_machines(self.flat, case.drawings)
         self.copy, self.others = Copy(self.flat), None
         self.other_stimuli = case.others(self.flat)
 
@@ -130,7 +134,9 @@ class Trial:
     def words(self, dump, habit=None):
         """The words of `covered score` for a dump, under a habit or the first one of the case."""
         sources = [word for name in self.sources for word in ("-v", name)]
-        more = [*command_words(self.case.machines), *(["-late"] if (habit or self.case.habits[0]) == LATE else [])]
+        named, drawn = command_words(self.case.machines), drawings.command_words(self.case.drawings)
+        more = [*(named + drawn if self.case.seed % 3 else drawn + named)]
+        more += ["-late"] if (habit or self.case.habits[0]) == LATE else []
         words = ["-t", self.flat.top.module.name, "-i", "tb.dut", *sources, "-vcd", dump, "-o", "out.db"]
         return ["score", *more, *words] if self.case.seed % 2 else ["score", *words, *more]
 
@@ -263,10 +269,10 @@ def fault_word(text):
     return "?"
 
 
-def random_case(seed, dumps, clocked=False, memories=False, with_machines=False, late=False):
+def random_case(seed, dumps, clocked=False, memories=False, with_machines=False, drawn=False, late=False):
     """A random design with its bench, so many choices of names to dump, and the numbers that choose what is altered."""
     chance, words = random.Random(seed), [] if with_machines else None
-    design = random_design(chance, clocked, memories, words)
+    design = random_design(chance, clocked, memories, words, drawn)
     for module in design:
         module.number()
     flat = Flat(design[-1])
@@ -274,6 +280,8 @@ def random_case(seed, dumps, clocked=False, memories=False, with_machines=False,
     case = Case(design, stimuli, seed, all_names(flat), chance.random() < 0.4, clocked=clocked)
     if with_machines:
         case.machines = random_words(chance, flat, words)
+    if drawn:
+        case.drawings = random_drawings(chance, flat)
     if late:
         case.stimuli = habits.late(stimuli, flat, chance)
         case.habits = chance.choice([(LATE,), (LATE, FREE)])

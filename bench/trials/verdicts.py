@@ -7,6 +7,11 @@ from .points import head_of, points_of
 UNDETERMINED = re.compile(r"\? (\d+) (\S+)$")
 
 
+def is_drawn(address):
+    """Whether a point is of a drawn machine: the names of its states are digits."""
+    return address.startswith("f ") and address.split()[3][0].isdigit()
+
+
 def read_verdicts(text, head, points):
     """The verdict of each point in order, and what is wrong with the form of the database."""
     lines = text.split("\n")
@@ -47,6 +52,8 @@ class Comparison:
         self.counts[word] += 1
         if point.address.startswith("m "):
             self.counts[f"words {word}"] += 1
+        if is_drawn(point.address):
+            self.counts[f"drawn {word}"] += 1
         check = self.undetermined_fault if word == "undetermined" else self.decided_fault
         return check(point, verdict, times)
 
