@@ -1,5 +1,5 @@
 -- What the instances of a design draw, one by one.
-use Rattle.std.proofs.Common.{◌≡◌, ◌≢◌, ◌⊎◌, ◌↔◌, ◌<◌, ◌+◌, ◌^◌, ◌++◌, ℕ, zero, suc, ◌/◌, ◌%◌, ◌==◌, ◌&&◌, Bool, true, false, inl, inr, List, [], ◌∷◌, Result, Err, length, map, get_or, refl, sym, ap, subst, ◌∙◌, arith}
+use Rattle.std.proofs.Common.{◌≡◌, ◌≢◌, ◌⊎◌, ◌↔◌, ◌<◌, ◌+◌, ◌^◌, ◌++◌, ℕ, zero, suc, ◌/◌, ◌%◌, ◌==◌, ◌&&◌, Bool, true, false, inl, inr, List, [], ◌∷◌, Result, Ok, Err, length, map, get_or, refl, sym, ap, subst, ◌∙◌, arith}
 use Rattle.std.specs.List.{Contains}
 use Rattle.std.proofs.lemmas.Bool.{cases_lt, false≢true}
 use Rattle.design_model.specs.Design.{Design, In, signal_at}
@@ -159,7 +159,20 @@ pub no_machine_in : (d : Design) (of_module current next : List ℕ) (i : ℕ) (
     → (at ≢ parts.Module) → found ≡ Err (machine_fault.NoMachine at) → at ≡ part → IsInstanceOf d i of_module × IsNoMachineIn d current next i part
 no_machine_in d of_module current next i found parts.Module part of_in of_out other is same = absurd (other refl)
 no_machine_in d of_module current next i found parts.In part of_in of_out other is same = subst (λ (p : MachinePart). IsInstanceOf d i of_module × IsNoMachineIn d current next i p) same (of_in is)
-no_machine_in d of_module current next i found parts.Out part of_in of_out other is same = subst (λ (p : MachinePart). IsInstanceOf d i of_module × IsNoMachineIn d current next i p) same (of_out is)
+no_machine_in d of_module current next i found parts.Out part of_in of_out other is same =
+    let fault = of_out is in
+    subst (λ (p : MachinePart). IsInstanceOf d i of_module × IsNoMachineIn d current next i p) same (fault.0, (fault.1, fault.2, fault.3))
+
+-- two answers that are found are the same
+ok_same : {A E : Type 0} (x y : A) (r : Result A E) → r ≡ Ok x → r ≡ Ok y → x ≡ y
+ok_same x y r a b =
+    let both : Ok x ≡ Ok y = sym a ∙ b in
+    cc
+
+pub same_pair : (s t p q : ℕ) (r : Result (ℕ × ℕ) MachineFault) → r ≡ Ok (s, t) → r ≡ Ok (p, q) → (p ≡ s) × (q ≡ t)
+same_pair s t p q r a b =
+    let e = ok_same {A = ℕ × ℕ} (s, t) (p, q) r a b in
+    (sym (ap (λ (x : ℕ × ℕ). x.0) e), sym (ap (λ (x : ℕ × ℕ). x.1) e))
 
 -- a fault that a call hands on
 pub handed_on : {T : Type 0} (r : Result T DrawFault) (x y f : DrawFault) → r ≡ Err y → y ≡ x → r ≡ Err f → x ≡ f
@@ -235,8 +248,8 @@ plain_values d i s v w current there named =
     }
 
 pub drawing_plain : (d : Design) (of_module current next : List ℕ) (e : Drawn) → IsDrawing d of_module current next e → IsPlain d current e
-drawing_plain d of_module current next e (i, s, t, machine, inl (v, is, same)) = subst (IsPlain d current) (sym same) (plain_values d i s v v current machine.instance.0 machine.current_is)
-drawing_plain d of_module current next e (i, s, t, machine, inr (v, w, is, same)) = subst (IsPlain d current) (sym same) (plain_values d i s v w current machine.instance.0 machine.current_is)
+drawing_plain d of_module current next e (i, (s, t, machine, inl (v, is, same))) = subst (IsPlain d current) (sym same) (plain_values d i s v v current machine.instance.0 machine.current_is)
+drawing_plain d of_module current next e (i, (s, t, machine, inr (v, w, is, same))) = subst (IsPlain d current) (sym same) (plain_values d i s v w current machine.instance.0 machine.current_is)
 
 -- names of machines that are all there have no fault
 pub placed_or_fault : (d : Design) (of_module current next : List ℕ) → ((i s t : ℕ) → IsNameOf d i current s → IsNameOf d i current t → s ≡ t) → IsPlaced d of_module current next → (part : MachinePart) → IsNoMachine d of_module current next part → ⊥

@@ -1,5 +1,6 @@
-use Rattle.std.proofs.Common.{◌≡◌, ◌∙◌, ◌++◌, ◌↔◌, ◌<◌, ℕ, Err, List, append_assoc, length, refl, sym, ap, subst, arith}
+use Rattle.std.proofs.Common.{[], ◌+◌, ◌≡◌, ◌∙◌, ◌++◌, ◌↔◌, ◌<◌, ℕ, Err, List, append_assoc, length, refl, sym, ap, subst, arith}
 use Rattle.std.proofs.lemmas.Bool.{false≢true, iff_false}
+use Rattle.std.proofs.lemmas.List.{append-nil}
 use Rattle.std.proofs.lemmas.Result.{err_from_is_err_and}
 use Rattle.design_model.specs.Design.{In}
 use Rattle.design_model.specs.Points.{IsInstanceOf}
@@ -8,9 +9,9 @@ use Rattle.fsm_extract.specs.declared.names.MachinePart.{MachinePart}
 use Rattle.fsm_extract.specs.declared.names.MachinePart.TheVariants as parts
 use Rattle.state_machines.specs.declared.drawn.Drawn.{Drawn}
 use Rattle.drawn_machines.specs.Drawing.{IsNoMachine}
-use Rattle.drawn_machines.proofs.Drawings.{IsDrawnBelow, IsSomeBelow, handed_on, more_below, more_machines, no_machine_at, none_below, some_before, some_here, whole_drawn}
+use Rattle.drawn_machines.proofs.Drawings.{IsDrawnBelow, all_drawings, handed_on, more_below, more_machines, no_machine_at, no_module, none_below, placed_all, some_before, some_here, whole_drawn}
 use Rattle.drawn_machines.proofs.drawing.draw.Goals as goal
-use Rattle.drawn_machines.proofs.drawing.draw.Goals.{then-draw_at, else-draw_at}
+use Rattle.drawn_machines.proofs.drawing.draw.Goals.{then-branch, else-branch}
 
 pub loop-number-init : goal.loop-number-init
 loop-number-init c =
@@ -38,9 +39,9 @@ loop-number-preserved c =
       named = own.named ∙ so_far.named;
       drawn = (es ++ new, own.drawn.1 ∙ ap (λ (ds : List Drawn). ds ++ new) so_far.drawn.1 ∙ append_assoc c.args.states.now.drawn es new, there);
       each = more_machines d m current next n so_far.each (λ is. own.placed (own.own.1 is));
-      some = elim c.if-draw_at.branch [
-        | then-draw_at w ↦ some_here d m n _ w.has_instance-is (own.own.0 w.if-draw_at.true)
-        | else-draw_at w ↦ some_before d m n c.loop-number.has_instance _ w.has_instance-is (iff_false own.own w.if-draw_at.false) so_far.some
+      some = elim c.if-branch.branch [
+        | then-branch w ↦ some_here d m n _ w.has_instance-is (own.own.0 w.if-branch.true)
+        | else-branch w ↦ some_before d m n c.loop-number.has_instance _ w.has_instance-is (iff_false own.own w.if-branch.false) so_far.some
       ];
     }
 
