@@ -1,15 +1,14 @@
-use Rattle.std.proofs.Common.{[], ◌+◌, ◌≡◌, ◌∙◌, ◌++◌, ◌↔◌, ◌<◌, ℕ, Err, List, append_assoc, length, refl, sym, ap, subst, arith}
+use Rattle.std.proofs.Common.{[], ◌+◌, ◌≡◌, ◌∙◌, ◌++◌, ◌↔◌, Err, List, append_assoc, refl, sym, ap, subst, arith}
 use Rattle.std.proofs.lemmas.Bool.{false≢true, iff_false}
 use Rattle.std.proofs.lemmas.List.{append-nil}
 use Rattle.std.proofs.lemmas.Result.{err_from_is_err_and}
 use Rattle.design_model.specs.Design.{In}
-use Rattle.design_model.specs.Points.{IsInstanceOf}
 use Rattle.design_model.specs.View.{design_view}
 use Rattle.fsm_extract.specs.declared.names.MachinePart.{MachinePart}
 use Rattle.fsm_extract.specs.declared.names.MachinePart.TheVariants as parts
 use Rattle.state_machines.specs.declared.drawn.Drawn.{Drawn}
 use Rattle.drawn_machines.specs.Drawing.{IsNoMachine}
-use Rattle.drawn_machines.proofs.Drawings.{IsDrawnBelow, all_drawings, handed_on, more_below, more_machines, no_machine_at, no_module, none_below, placed_all, some_before, some_here, whole_drawn}
+use Rattle.drawn_machines.proofs.Drawings.{IsDrawnBelow, all_drawings, handed_on, more_below, more_machines, no_machine_at, no_module, none_below, placed_all, some_before, some_here}
 use Rattle.drawn_machines.proofs.drawing.draw.Goals as goal
 use Rattle.drawn_machines.proofs.drawing.draw.Goals.{then-branch, else-branch}
 

@@ -1,4 +1,4 @@
-use Rattle.std.proofs.Common.{◌≡◌, ◌∙◌, ◌++◌, List, append_assoc, ap, ap₂, sym, subst, ℕ}
+use Rattle.std.proofs.Common.{◌∙◌, ◌++◌, List, append_assoc, ap, sym, subst, ℕ}
 use Rattle.design_model.specs.View.{design_view}
 use Rattle.drawn_machines.specs.Drawing.{AreNumberPairs, AreNumbers, arcs_drawn, states_drawn}
 use Rattle.drawn_machines.proofs.Drawings.{all_drawn, numbers_inside, pairs_inside}
