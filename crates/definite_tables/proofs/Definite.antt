@@ -1,5 +1,5 @@
 -- A point for which nothing is in doubt is hit or missed in a reasoned table.
-use Rattle.std.proofs.Common.{ℕ, List, get_or}
+use Rattle.std.proofs.Common.{ℕ, get_or}
 use Rattle.coverage_db.specs.declared.db.Db.{Db}
 use Rattle.coverage_db.specs.declared.verdict.DbVerdict.{DbVerdict}
 use Rattle.coverage_db.specs.declared.verdict.DbVerdict.TheVariants.{Hit, Missed, Undetermined}

@@ -1,5 +1,5 @@
 -- Which points a reasoned table leaves not undetermined.
-use Rattle.std.specs.Prelude.{◌≡◌, ℕ, true, List, All, ⊤}
+use Rattle.std.specs.Prelude.{◌≡◌, ℕ, true, All, ⊤}
 use Rattle.coverage_db.specs.declared.db.Db.{Db}
 use Rattle.coverage_db.specs.declared.verdict.DbVerdict.{DbVerdict}
 use Rattle.coverage_db.specs.declared.verdict.DbVerdict.TheVariants.{Undetermined}
