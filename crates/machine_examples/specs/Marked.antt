@@ -74,7 +74,7 @@ pub record IsTestExample : Type 0 where
   pub of_arc : is_of_machine 0 3 (Arc 0 0 1) ≡ true
   pub of_other : is_of_machine 0 3 (State 1 0) ≡ false
 
--- a machine of signal 1, of one bit, with the states 0 and 1
+-- a machine of signal 1, of one bit, with the states 0 and 1, and the arc that leaves the first
 abbrev pub light : Machine
 light =
     record {
@@ -83,6 +83,7 @@ light =
       signal = 1;
       names = codes "off" ∷ codes "on" ∷ [];
       values = record { bits = Zero ∷ []; signed = false } ∷ record { bits = One ∷ []; signed = false } ∷ [];
+      leaving = 1;
     }
 
 -- these are the points of its two states and of the arc from the first one to the second
