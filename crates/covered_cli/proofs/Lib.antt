@@ -7,7 +7,7 @@ pub mod Designs
 pub mod Lines
 pub mod Digits
 pub mod Machines
-pub mod Drawings
+pub mod DrawnMachines
 pub mod Scoring
 pub mod Refusing
 pub mod WordLists
