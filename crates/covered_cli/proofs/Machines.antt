@@ -45,7 +45,6 @@ abbrev AllNamed : List StateNames → Type 0
 AllNamed ms = (m : StateNames) → In m ms → AreNamed m
 
 named_more : (m : StateNames) (ms : List StateNames) → AreNamed m → AllNamed ms → AllNamed (with_machine m ms)
-unfolding AllNamed
 named_more m [] one all x (inl e) = subst AreNamed e one
 named_more m [] one all x (inr h) = absurd h
 named_more m (n ∷ ns) one all x h = go (is_same_variable m n) (named_more m ns one (λ y i. all y (inr i)) x) h
@@ -90,7 +89,6 @@ in_mapped f x (y ∷ ys) (inr h) = let r = in_mapped f x ys h in (r.0, inr r.1, 
 
 module _ (score : ScoreValues) (d : Design) (lawful : IsLawfulDesign d) (forms : HaveForms score) (ms : StateMachines) (are : AreMachinesOf score d ms) where
   named_are : (m : StateNames) → In m ms.named → AreNamed m
-  unfolding AllNamed
   named_are m h = named_all score.machines [] forms.machines (λ n k. absurd k) m (subst (λ (ns : List StateNames). In m ns) are.named h)
 
   -- what is drawn is of the design, without x and z

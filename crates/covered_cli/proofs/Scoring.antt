@@ -60,7 +60,7 @@ design_stands score before after Memory is = tt
 design_stands score before after (Databases f) is = absurd is
 
 -- the design has all points that were listed
-pub has_listed : (score : ScoreValues) (before : Outside) (sources : List SourceText) (design : Design) (machines : StateMachines) (points : Points) → AreMachinesOf score (design_view design) machines → HasSources (sources_in score) before sources → StandFor sources (sources_in score).defines score.top design → AreAllPoints (design_view design) machines points → HasDesign score before sources design
+abbrev pub has_listed : (score : ScoreValues) (before : Outside) (sources : List SourceText) (design : Design) (machines : StateMachines) (points : Points) → AreMachinesOf score (design_view design) machines → HasSources (sources_in score) before sources → StandFor sources (sources_in score).defines score.top design → AreAllPoints (design_view design) machines points → HasDesign score before sources design
 has_listed score before sources design machines points are gathered stands all = record { gathered = gathered; stands = stands; machines = machines; are_machines = are; few = (points, all.listed, all.few) }
 
 -- a fault of points stands
@@ -86,10 +86,6 @@ drawing_stands score before after sources design gathered stands (Contradiction 
 drawing_stands score before after sources design gathered stands (FilesFault call file) is = absurd is
 drawing_stands score before after sources design gathered stands Memory is = tt
 drawing_stands score before after sources design gathered stands (Databases f) is = absurd is
-
--- so does one with equal machines
-pub points_stand_with : (score : ScoreValues) (before after : Outside) (sources : List SourceText) (design : Design) → HasSources (sources_in score) before sources → StandFor sources (sources_in score).defines score.top design → (ms : List StateNames) → ms ≡ machines_in score → (fault : Fault) → IsPointsFault design ms fault → StandsIn score before after fault
-points_stand_with score before after sources design gathered stands ms same fault is = points_stand score before after sources design gathered stands fault (subst (λ ms. IsPointsFault design ms fault) same is)
 
 -- a fault of a file stands
 reading_stands : (score : ScoreValues) (before middle after : Outside) → HasSomeDesign score before → KeepsFiles before middle → CountsUp before middle → CountsUp middle after → (fault : Fault) → IsReadingFault score.dump middle after fault → StandsIn score before after fault
@@ -197,7 +193,7 @@ writing_stands score before later after has first second (Databases f) is = absu
 pub writing_is_late : (name : List ℕ) (before after : Outside) (fault : Fault) → IsWritingFault name before after fault → IsEarly fault → ⊥
 writing_is_late name before after (Usage usage) is early = is
 writing_is_late name before after (Source f) is early = is
-writing_is_late name before after (NoMachine name) is early = is
+writing_is_late name before after (NoMachine other) is early = is
 writing_is_late name before after (PointsFault p) is early = is
 writing_is_late name before after (Dump refusal) is early = is
 writing_is_late name before after (Contradiction found) is early = is

@@ -31,6 +31,12 @@ returns-in_err-draw_machines-clause-fault g c =
     let fault = err_from_is_err_and c.from_residual-in_err-draw_machines.result c.from_residual-in_err-draw_machines.ensures.1 in
     rw (fault.1, fault.2) (drawing_stands score before after read.sources _ read.gathered read.stands _ c.in_err-draw_machines.ensures.fault)
 
+pub returns-in_err-draw_machines-clause-others : goal.returns-in_err-draw_machines-clause-others
+returns-in_err-draw_machines-clause-others g c =
+    let before = g.H.Host.outside c.args.host.now in
+    let after = g.H.Host.outside c.design_of.new.host in
+    others_kept _ before.files after.files c.in_ok-design.ensures.effects.files
+
 pub points_of-requires-clause-lawful : goal.points_of-requires-clause-lawful
 points_of-requires-clause-lawful g c = lawful_design _ _ _ _ c.in_ok-design.ensures.read.stands
 
@@ -47,6 +53,12 @@ returns-in_err-points-clause-fault g c =
     let read = c.in_ok-design.ensures.read in
     let fault = err_from_is_err_and c.from_residual-in_err-points.result c.from_residual-in_err-points.ensures.1 in
     rw (fault.1, fault.2) (points_stand score before after read.sources _ _ (machines_are score _ _ _ c.in_ok-states.ensures.named c.in_ok-states.ensures.drawn c.draw_machines.ensures.named c.in_ok-draw_machines.ensures.drawn c.in_ok-draw_machines.ensures.placed) read.gathered read.stands _ c.in_err-points.ensures.fault)
+
+pub returns-in_err-points-clause-others : goal.returns-in_err-points-clause-others
+returns-in_err-points-clause-others g c =
+    let before = g.H.Host.outside c.args.host.now in
+    let after = g.H.Host.outside c.design_of.new.host in
+    others_kept _ before.files after.files c.in_ok-design.ensures.effects.files
 
 pub db_of-requires-clause-replayable : goal.db_of-requires-clause-replayable
 db_of-requires-clause-replayable g c = rw c.deref.ensures (replayable_design _ _ _ _ _ _ c.in_ok-design.ensures.read.stands c.in_ok-points.ensures.points)
@@ -79,7 +91,7 @@ returns-in_err-db-clause-fault g c =
     let read = c.in_ok-design.ensures.read in
     let effects = c.in_ok-design.ensures.effects in
     let fault = err_from_is_err_and c.from_residual-in_err-db.result c.from_residual-in_err-db.ensures.1 in
-    rw (fault.1, fault.2) (scoring_stands score read.sources _ before middle after (has_listed score before read.sources _ _ _ (machines_are score _ _ _ c.in_ok-states.ensures.named c.in_ok-states.ensures.drawn c.draw_machines.ensures.named c.in_ok-draw_machines.ensures.drawn c.in_ok-draw_machines.ensures.placed) read.gathered read.stands c.in_ok-points.ensures.points) effects.files effects.counts c.in_err-db.ensures.effects.counts _ c.in_err-db.ensures.fault)
+    rw (fault.1, fault.2) (scoring_stands score read.sources _ before middle after (has_listed score before read.sources _ c.draw_machines.new.states _ (machines_are score _ _ c.draw_machines.new.states c.in_ok-states.ensures.named c.in_ok-states.ensures.drawn c.draw_machines.ensures.named c.in_ok-draw_machines.ensures.drawn c.in_ok-draw_machines.ensures.placed) read.gathered read.stands c.in_ok-points.ensures.points) effects.files effects.counts c.in_err-db.ensures.effects.counts _ c.in_err-db.ensures.fault)
 
 pub returns-in_err-db-clause-early : goal.returns-in_err-db-clause-early
 returns-in_err-db-clause-early g c =
@@ -96,6 +108,12 @@ returns-in_err-db-clause-others g c =
     let after = g.H.Host.outside c.db_of.new.host in
     others_kept _ before.files after.files (KeepsFiles-trans before middle after c.in_ok-design.ensures.effects.files c.in_err-db.ensures.effects.files)
 
+pub text_of-requires : goal.text_of-requires
+text_of-requires g c =
+    let here = subst (λ ps. AreAllPoints (design_view c.in_ok-design.field-0.design) c.draw_machines.new.states ps) (sym c.deref.ensures) c.in_ok-points.ensures.points in
+    let scored = c.in_ok-db.ensures.scored c.draw_machines.new.states here in
+    scored.score.table.table
+
 pub returns-clause-done : goal.returns-clause-done
 returns-clause-done g c =
     let score = score_values c.args.words.now in
@@ -107,7 +125,8 @@ returns-clause-done g c =
     let effects = c.in_ok-design.ensures.effects in
     let db = c.in_ok-db.ensures in
     let kept = KeepsFiles-trans before middle later effects.files db.effects.files in
-    OnOk-map c.write.result (score_is_done score read.sources _ _ _ _ before middle later after (has_listed score before read.sources _ _ _ (machines_are score _ _ _ c.in_ok-states.ensures.named c.in_ok-states.ensures.drawn c.draw_machines.ensures.named c.in_ok-draw_machines.ensures.drawn c.in_ok-draw_machines.ensures.placed) read.gathered read.stands c.in_ok-points.ensures.points) read.names effects.files kept (db.scored _ c.in_ok-points.ensures.points) c.in_ok-text.ensures.text) c.write.ensures.written
+    let here = subst (λ ps. AreAllPoints (design_view c.in_ok-design.field-0.design) c.draw_machines.new.states ps) (sym c.deref.ensures) c.in_ok-points.ensures.points in
+    OnOk-map c.write.result (score_is_done score read.sources _ _ _ _ before middle later after (has_listed score before read.sources _ c.draw_machines.new.states _ (machines_are score _ _ c.draw_machines.new.states c.in_ok-states.ensures.named c.in_ok-states.ensures.drawn c.draw_machines.ensures.named c.in_ok-draw_machines.ensures.drawn c.in_ok-draw_machines.ensures.placed) read.gathered read.stands c.in_ok-points.ensures.points) read.names effects.files kept (db.scored c.draw_machines.new.states here) c.in_ok-text.ensures.text) c.write.ensures.written
 
 pub returns-in_err-text-clause-others : goal.returns-in_err-text-clause-others
 returns-in_err-text-clause-others g c =
@@ -133,7 +152,7 @@ returns-clause-fault g c =
     let after = g.H.Host.outside c.write.new.host in
     let counts = CountsUp-trans before middle later c.in_ok-design.ensures.effects.counts c.in_ok-db.ensures.effects.counts in
     let read = c.in_ok-design.ensures.read in
-    IfErr-map c.write.result (writing_stands score before later after (read.sources, _, has_listed score before read.sources _ _ _ (machines_are score _ _ _ c.in_ok-states.ensures.named c.in_ok-states.ensures.drawn c.draw_machines.ensures.named c.in_ok-draw_machines.ensures.drawn c.in_ok-draw_machines.ensures.placed) read.gathered read.stands c.in_ok-points.ensures.points) counts c.write.ensures.counts) c.write.ensures.fault
+    IfErr-map c.write.result (writing_stands score before later after (read.sources, _, has_listed score before read.sources _ c.draw_machines.new.states _ (machines_are score _ _ c.draw_machines.new.states c.in_ok-states.ensures.named c.in_ok-states.ensures.drawn c.draw_machines.ensures.named c.in_ok-draw_machines.ensures.drawn c.in_ok-draw_machines.ensures.placed) read.gathered read.stands c.in_ok-points.ensures.points) counts c.write.ensures.counts) c.write.ensures.fault
 
 pub returns-clause-early : goal.returns-clause-early
 returns-clause-early g c =
