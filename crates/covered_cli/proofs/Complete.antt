@@ -39,7 +39,6 @@ use Rattle.covered_cli.specs.Fault.{IsRefused, NamesFile, Stands, line_of, statu
 use Rattle.covered_cli.proofs.Designs.{lawful_design}
 use Rattle.covered_cli.specs.PointsMessage.{points_line, points_status}
 use Rattle.covered_cli.specs.ScoreMachines.{AreMachinesOf, habit_in}
-use Rattle.state_machines.specs.Machines.{StateMachines}
 use Rattle.covered_cli.proofs.Machines.{alike_machines, none_refused}
 use Rattle.covered_cli.specs.ScoreSources.{sources_in}
 use Rattle.covered_cli.specs.Scoring.{HasDesign, HasNoMachine, HasNoScore, HasPointsFault, HasSomeDesign, IsContradictedDump, IsContradictedText, IsDone, IsDoneBy, IsDoneIn, IsDumpRefusal, IsRefusedDump}
