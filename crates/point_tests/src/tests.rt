@@ -242,7 +242,8 @@ fn is_refused_of(alloc: Global, design: &Design, case: &FaultCase) -> bool
 
 /// The same with the machines of the case.
 fn is_refused_with(alloc: Global, design: &Design, states: &States, case: &FaultCase) -> bool
-    requires { IsLawfulDesign (design_view design.now) }
+    requires lawful { IsLawfulDesign (design_view design.now) }
+    requires named { states.now.drawn ≡ [] }
 {
     match list(alloc, design, states) {
         Ok(_) => false,
