@@ -11,7 +11,7 @@ pub(crate) const FAULTS: &[(&[&str], &str)] = &[
     (&["restore", "-o", "e.db", "-point", "t ff clk - 10", "t1.db"], "unknown command restore"),
     (&["selfrun", "1", "2"], "unknown command selfrun"),
     (&["frob"], "unknown command frob"),
-    (&["score", "-F", "ctl=st,st"], "unknown word -F"),
+    (&["score", "-G", "ctl=st,st"], "unknown word -G"),
     (&["score", "-t", "ff", "zzz", "-t"], "unknown word zzz"),
     (&["score", "zzz"], "unknown word zzz"),
     (&["score", "-y", "lib"], "unknown word -y"),
