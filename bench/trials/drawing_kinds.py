@@ -474,8 +474,9 @@ def random_drawings(chance, flat):
     if chance.random() < 0.15:
         found.append(chance.choice(found))
     chance.shuffle(found)
-    for _ in range(chance.choice([1, 1, 2]) if chance.random() < 0.05 else 0):
-        found.insert(chance.randint(0, len(found)), faulty(chance, flat, *chance.choice(found)))
+    drawn = [word for word in found if fault_of(flat, *word) is None]
+    for _ in range(chance.choice([1, 1, 2]) if drawn and chance.random() < 0.05 else 0):
+        found.insert(chance.randint(0, len(found)), faulty(chance, flat, *chance.choice(drawn)))
     return found
 
 
