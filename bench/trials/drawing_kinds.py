@@ -28,7 +28,7 @@ class Constants:
 
     def number(self, value, added=0, signed=None):
         """A number with so many more bits than the width, or fewer."""
-        chance, width = self.chance, max(self.width + added, 1)
+        chance, width = self.chance, min(max(self.width + added, 1), 128)
         value, signed = value & vectors.mask(width), chance.random() < 0.25 if signed is None else signed
         base = chance.choice("bhd")
         digits = {"b": f"{value:0{width}b}", "h": f"{value:x}", "d": str(value)}[base]
