@@ -36,7 +36,7 @@ class Constants:
 
     def strange(self, value):
         """A number with x or z: within the width, or above it alone."""
-        if self.chance.random() < 0.5:
+        if self.chance.random() < 0.5 or self.width > 126:
             return random_number(self.chance, self.width, unknown=0.4)
         digits = self.chance.choice(["x", "z", "0x", "x1"]) + f"{value:0{self.width}b}"
         return Number(f"{len(digits)}'b{digits}", vectors.of_digits(digits), False)
