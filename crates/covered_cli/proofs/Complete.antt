@@ -35,7 +35,8 @@ use Rattle.covered_cli.proofs.GoodDumps.{not_contradicted, not_refused, same_bin
 use Rattle.covered_cli.specs.Complete.{EndsWith, HasBadDump, HasBadSource, HasText, HasUnboundDump, HaveTexts, IsCommandWith, IsGoodScore, IsOfBinding, LacksPoints, NoFaults, RefusesBinding, RefusesDump, RefusesPoints}
 use Rattle.covered_cli.specs.Drawing.{IsNoMachineOf}
 use Rattle.covered_cli.specs.Effects.{WarnsLine}
-use Rattle.covered_cli.specs.Fault.{IsRefused, NamesFile, Stands, line_of, status_of}
+use Rattle.covered_cli.specs.Fault.{NamesFile, Stands, line_of, status_of}
+use Rattle.whole_files.specs.Refusals.{IsRefused}
 use Rattle.covered_cli.proofs.Designs.{lawful_design}
 use Rattle.covered_cli.specs.PointsMessage.{points_line, points_status}
 use Rattle.covered_cli.specs.ScoreMachines.{AreMachinesOf, habit_in}
@@ -66,12 +67,11 @@ is_told (Some files) name text told = refl
 
 -- a call that gave nothing was counted as a fault, since the dump is there
 refused_call : (score : ScoreValues) (before after : Outside) (text : List ℕ) → HasText before score.dump text → (call : Call) (file : List ℕ) → NamesFile score call file → IsRefused call file before after → IsCounted before.faults after.faults
-refused_call score before after text is OpenRead file named (inl counted) = counted
-refused_call score before after text is OpenRead file named (inr missing) = absurd (not_missing_at before.files score.dump text _ is (subst (λ name. IsMissing name before after) named missing))
-refused_call score before after text is Read file named counted = counted
-refused_call score before after text is OpenWrite file named counted = counted
-refused_call score before after text is Write file named counted = counted
-refused_call score before after text is CloseWrite file named counted = counted
+refused_call score before after text is OpenRead file named refused = elim refused.cause [ inl counted ↦ counted | inr missing ↦ absurd (not_missing_at before.files score.dump text _ is (subst (λ name. IsMissing name before after) named missing)) ]
+refused_call score before after text is Read file named refused = refused.cause
+refused_call score before after text is OpenWrite file named refused = refused.cause
+refused_call score before after text is Write file named refused = refused.cause
+refused_call score before after text is CloseWrite file named refused = refused.cause
 
 -- the sources of a command that are told
 module _ (score : ScoreValues) (before : Outside) (sources : List SourceText) (told : IsSome before.files) (gathered : HasSources (sources_in score) before sources) where
@@ -92,7 +92,7 @@ module _ (score : ScoreValues) (before : Outside) (sources : List SourceText) (t
 
   -- what is done has a design
   source_done : (after : Outside) → ((design : Design) → StandFor sources (sources_in score).defines score.top design → ⊥) → IsDoneIn score before after → ⊥
-  source_done after none done = no_some_design none (done.sources, done.design, done.has_design)
+  source_done after none done = no_some_design none (done.scored.sources, done.scored.design, done.scored.has_design)
 
   no_design : ((design : Design) → StandFor sources (sources_in score).defines score.top design → ⊥) → (r : DumpRefusal) → IsRefusedDump score before r → ⊥
   no_design none r refused = no_some_design none (refused.sources, refused.design, refused.has_design)
@@ -163,8 +163,9 @@ module _ (score : ScoreValues) (before : Outside) (design : Design) (text : List
   -- a design that has no score is not done
   dump_done : (after : Outside) → HasNoScore design score.instance text → IsDoneIn score before after → ⊥
   dump_done after none done =
-      none done.scores.dump (subst (λ text. IsDump text done.scores.dump) (sym (same_text done.dump done.dump_is)) done.scores.is_dump)
-      (same_bound done.design design done.scores.dump score.instance (sym (design_found done.sources done.design done.has_design)) done.scores.scores.accepted.bound)
+      let s = done.scored in
+      none s.scores.dump (subst (λ text. IsDump text s.scores.dump) (sym (same_text s.dump s.dump_is)) s.scores.is_dump)
+      (same_bound s.design design s.scores.dump score.instance (sym (design_found s.sources s.design s.has_design)) s.scores.scores.accepted.bound)
 
 -- a design whose points are not listed has no score
 module _ (score : ScoreValues) (before : Outside) (lacks : LacksPoints score before) where
@@ -353,4 +354,4 @@ module _ (words : List (List ℕ)) (before after : Outside) (done : IsDone words
   unbound_not_done unbound = bad_dump_not_done (bad_command words before unbound)
 
   pub points_not_done : IsCommandWith LacksPoints words before → ⊥
-  points_not_done (score, is, lacks) = let by = done_by score is in not_listed score before lacks by.sources by.design by.has_design
+  points_not_done (score, is, lacks) = let by = (done_by score is).scored in not_listed score before lacks by.sources by.design by.has_design

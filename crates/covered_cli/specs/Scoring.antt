@@ -8,9 +8,9 @@ use Rattle.cov_host.specs.Outside.{Outside, HasFile, Told}
 use Rattle.coverage_db.specs.Table.{IsTable}
 use Rattle.coverage_db.specs.Text.{text_of}
 use Rattle.coverage_db.specs.declared.db.Db.{Db}
-use Rattle.database_commands.specs.Merging.{IsMergedIn}
-use Rattle.database_commands.specs.Reporting.{IsReportedIn}
-use Rattle.database_commands.specs.Tracing.{IsTracedIn}
+use Rattle.database_commands.specs.Merging.{IsMergedIn, IsMergedText}
+use Rattle.database_commands.specs.Reporting.{IsReportedIn, IsReportedText}
+use Rattle.database_commands.specs.Tracing.{IsTracedIn, IsTracedText}
 use Rattle.design_model.specs.Design.{path_of}
 use Rattle.design_model.specs.View.{design_view}
 use Rattle.design_model.specs.declared.design.Design.{Design}
@@ -137,15 +137,23 @@ IsRefusedDump score before refusal = HasDump score before (λ design text. IsDum
 abbrev pub IsContradictedDump : ScoreValues → Outside → Contradiction → Type 0
 IsContradictedDump score before x = HasDump score before (λ design text. IsContradictedText (habit_in score) design score.instance text x)
 
--- the output holds the table of the design of the sources under the dump, and every other file is as before
-pub record IsDoneIn (score : ScoreValues) (before after : Outside) : Type 0 where
+-- the text is that of the table of the design of the sources under the dump
+pub record IsScoredText (score : ScoreValues) (before : Outside) (text : List ℕ) : Type 0 where
   pub sources : List SourceText
   pub dump : List ℕ
   pub design : Design
-  pub text : List ℕ
   pub has_design : HasDesign score before sources design
   pub dump_is : IsFile before score.dump dump
   pub scores : IsScoreText (habit_in score) design has_design.machines (names_of sources) dump score.instance text
+
+-- the sources have a design, and the dump a score of it
+abbrev pub HasSomeScore : ScoreValues → Outside → Type 0
+HasSomeScore score before = (text : List ℕ) × IsScoredText score before text
+
+-- the output holds the table of the design of the sources under the dump, and every other file is as before
+pub record IsDoneIn (score : ScoreValues) (before after : Outside) : Type 0 where
+  pub text : List ℕ
+  pub scored : IsScoredText score before text
   pub written : Told (HasFile score.output text) before.files after.files
 
 -- what a command with these values asks for was done
@@ -154,6 +162,13 @@ IsDoneBy (of_score values) before after = IsDoneIn values before after
 IsDoneBy (of_merge values) before after = IsMergedIn values before after
 IsDoneBy (of_report values) before after = IsReportedIn values before after
 IsDoneBy (of_lcov values) before after = IsTracedIn values before after
+
+-- the text is the one that a command with these values asks for
+abbrev pub IsTextOf : CommandValues → Outside → List ℕ → Type 0
+IsTextOf (of_score values) before text = IsScoredText values before text
+IsTextOf (of_merge values) before text = IsMergedText values before text
+IsTextOf (of_report values) before text = IsReportedText values before text
+IsTextOf (of_lcov values) before text = IsTracedText values before text
 
 -- what the command asks for was done
 abbrev pub IsDoneWork : Command → Outside → Outside → Type 0

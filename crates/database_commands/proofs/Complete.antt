@@ -9,10 +9,11 @@ use Rattle.coverage_db.specs.Merge.{SameDesign, bare_lines}
 use Rattle.coverage_db.specs.Text.{text_of}
 use Rattle.coverage_db.specs.declared.db.Db.{Db}
 use Rattle.coverage_db.specs.declared.fault.DbKind.{DbKind}
+use Rattle.whole_files.specs.Refusals.{IsRefused}
 use Rattle.whole_files.specs.declared.call.Call.{Call}
 use Rattle.whole_files.specs.declared.call.Call.TheVariants.{OpenRead, Read, OpenWrite, Write, CloseWrite}
 use Rattle.database_commands.specs.Complete.{HasTable, HaveTablesOf, IsGoodMerge, IsGoodReport, NoFaults}
-use Rattle.database_commands.specs.Faults.{ComesTo, IsMergeFault, IsNoTable, IsOtherDesign, IsRefused, IsWriting, inputs_of}
+use Rattle.database_commands.specs.Faults.{ComesTo, IsMergeFault, IsNoTable, IsOtherDesign, IsWriting, inputs_of}
 use Rattle.database_commands.specs.Files.{HoldsTable}
 use Rattle.database_commands.specs.Reporting.{IsReportFault}
 use Rattle.database_commands.specs.declared.fault.CommandFault.{CommandFault}
@@ -30,19 +31,18 @@ there_at (Some files) name text P told missing = let e : Some text ≡ None = sy
 
 -- a call on a file that is there was counted as a fault
 pub refused_there : (before after : Outside) (call : Call) (name : List ℕ) (db : Db) → HasTable before name db → IsRefused call name before after → IsCounted before.faults after.faults
-refused_there before after OpenRead name db has (inl counted) = counted
-refused_there before after OpenRead name db has (inr missing) = absurd (there_at before.files name (text_of db) (IsCounted before.absences after.absences) has.is missing)
-refused_there before after Read name db has counted = counted
-refused_there before after OpenWrite name db has counted = counted
-refused_there before after Write name db has counted = counted
-refused_there before after CloseWrite name db has counted = counted
+refused_there before after OpenRead name db has refused = elim refused.cause [ inl counted ↦ counted | inr missing ↦ absurd (there_at before.files name (text_of db) (IsCounted before.absences after.absences) has.is missing) ]
+refused_there before after Read name db has refused = refused.cause
+refused_there before after OpenWrite name db has refused = refused.cause
+refused_there before after Write name db has refused = refused.cause
+refused_there before after CloseWrite name db has refused = refused.cause
 
 pub refused_write : (before after : Outside) (call : Call) (name : List ℕ) → IsWriting call → IsRefused call name before after → IsCounted before.faults after.faults
 refused_write before after OpenRead name writing refused = absurd writing
 refused_write before after Read name writing refused = absurd writing
-refused_write before after OpenWrite name writing counted = counted
-refused_write before after Write name writing counted = counted
-refused_write before after CloseWrite name writing counted = counted
+refused_write before after OpenWrite name writing refused = refused.cause
+refused_write before after Write name writing refused = refused.cause
+refused_write before after CloseWrite name writing refused = refused.cause
 
 -- what has a table is no other text
 pub table_there : (before : Outside) (name : List ℕ) (db : Db) (kind : DbKind) (line : Option ℕ) → HasTable before name db → IsNoTable name before kind line → ⊥
@@ -76,7 +76,7 @@ module _ (alloc : Global) (merge : MergeValues) (before after : Outside) (good :
 
   pub good_merge : (fault : CommandFault) → IsMergeFault merge before after fault → fault ≡ Memory
   good_merge (Files call file) (inl is) = absurd (none (refused_there before after call file.now (good_at file.now is.1).0 (good_at file.now is.1).1 is.2))
-  good_merge (Files call file) (inr is) = absurd (none (refused_write before after call file.now is.0 is.2))
+  good_merge (Files call file) (inr (writing, named, refused, has)) = absurd (none (refused_write before after call file.now writing refused))
   good_merge Print is = absurd is
   good_merge Memory is = refl
   good_merge (NoDatabase file kind line) is = let at = good_at file.now is.0 in absurd (table_there before file.now at.0 kind line at.1 is.1)
@@ -89,8 +89,8 @@ module _ (alloc : Global) (merge : MergeValues) (before after : Outside) (good :
 pub good_report : (report : ReportValues) (before after : Outside) → IsGoodReport report before → NoFaults before after → (fault : CommandFault) → IsReportFault report before after fault → fault ≡ Memory
 good_report report before after good none (Files call file) (inl is) =
     absurd (none (refused_there before after call file.now good.0 (subst (λ name. HasTable before name good.0) (sym is.1) good.1) is.2))
-good_report report before after good none (Files call file) (inr is) = absurd (none (refused_write before after call file.now is.0 is.2))
-good_report report before after good none Print is = absurd (none is.1)
+good_report report before after good none (Files call file) (inr (writing, named, refused, holds)) = absurd (none (refused_write before after call file.now writing refused))
+good_report report before after good none Print (unnamed, counted, holds) = absurd (none counted)
 good_report report before after good none Memory is = refl
 good_report report before after good none (NoDatabase file kind line) is =
     absurd (table_there before file.now good.0 kind line (subst (λ name. HasTable before name good.0) (sym is.0) good.1) is.1)

@@ -1,14 +1,17 @@
-use Rattle.std.proofs.Common.{sym, subst}
-use Rattle.std.proofs.lemmas.Result.{err_from_is_err_and}
+use Rattle.std.proofs.Common.{Some, sym, subst}
+use Rattle.std.proofs.lemmas.Result.{err_from_is_err_and, on_err_weaker}
 use Rattle.command_line.specs.CommandWords.{score_values}
 use Rattle.design_model.specs.View.{design_view}
 use Rattle.design_points.specs.Counted.{AreAllPoints}
 use Rattle.whole_files.proofs.EffectLemmas.{CountsUp-trans, KeepsFiles-trans}
 use Rattle.covered_cli.proofs.Designs.{lawful_design, replayable_design, rooted_design, written_design}
-use Rattle.covered_cli.proofs.Scoring.{IfErr-map, OnOk-map, design_stands, drawing_stands, has_listed, others_kept, others_kept_since, points_stand, score_is_done, scoring_stands, writing_is_late, writing_stands}
+use Rattle.covered_cli.proofs.Scoring.{IfErr-map, OnOk-map, design_stands, drawing_stands, has_listed, others_kept, others_kept_since, points_stand, score_is_done, scoring_stands, text_is_scored, writing_is_late, writing_stands}
 use Rattle.covered_cli.proofs.Machines.{drawable, machines_are, written_machines}
 use Rattle.covered_cli.proofs.SourceNames.{AreGoodNames, good_names}
 use Rattle.covered_cli.specs.ScoreSources.{sources_in}
+use Rattle.covered_cli.specs.Scoring.{IsScoredText}
+use Rattle.database_commands.proofs.Reporting.{OnErr-intro, leaves_all, leaves_front}
+use Rattle.whole_files.proofs.EffectLemmas.{OnlyReads-trans}
 use Rattle.covered_cli.proofs.score.run_score.Goals as goal
 
 pub returns-in_err-design-clause-fault : goal.returns-in_err-design-clause-fault
@@ -124,9 +127,11 @@ returns-clause-done g c =
     let read = c.in_ok-design.ensures.read in
     let effects = c.in_ok-design.ensures.effects in
     let db = c.in_ok-db.ensures in
-    let kept = KeepsFiles-trans before middle later effects.files db.effects.files in
     let here = subst (λ ps. AreAllPoints (design_view c.in_ok-design.field-0.design) c.draw_machines.new.states ps) (sym c.deref.ensures) c.in_ok-points.ensures.points in
-    OnOk-map c.write.result (score_is_done score read.sources _ _ _ _ before middle later after (has_listed score before read.sources _ c.draw_machines.new.states _ (machines_are score _ _ c.draw_machines.new.states c.in_ok-states.ensures.named c.in_ok-states.ensures.drawn c.draw_machines.ensures.named c.in_ok-draw_machines.ensures.drawn c.in_ok-draw_machines.ensures.placed) read.gathered read.stands c.in_ok-points.ensures.points) read.names effects.files kept (db.scored c.draw_machines.new.states here) c.in_ok-text.ensures.text) c.write.ensures.written
+    let machines = machines_are score _ _ c.draw_machines.new.states c.in_ok-states.ensures.named c.in_ok-states.ensures.drawn c.draw_machines.ensures.named c.in_ok-draw_machines.ensures.drawn c.in_ok-draw_machines.ensures.placed in
+    let has = has_listed score before read.sources _ c.draw_machines.new.states _ machines read.gathered read.stands c.in_ok-points.ensures.points in
+    let scored = text_is_scored score read.sources _ _ _ _ before middle has read.names effects.files (db.scored c.draw_machines.new.states here) c.in_ok-text.ensures.text in
+    OnOk-map c.write.result (score_is_done score _ before later after scored (KeepsFiles-trans before middle later effects.files db.effects.files)) c.write.ensures.written
 
 pub returns-in_err-text-clause-others : goal.returns-in_err-text-clause-others
 returns-in_err-text-clause-others g c =
@@ -150,12 +155,78 @@ returns-clause-fault g c =
     let middle = g.H.Host.outside c.design_of.new.host in
     let later = g.H.Host.outside c.db_of.new.host in
     let after = g.H.Host.outside c.write.new.host in
-    let counts = CountsUp-trans before middle later c.in_ok-design.ensures.effects.counts c.in_ok-db.ensures.effects.counts in
     let read = c.in_ok-design.ensures.read in
-    IfErr-map c.write.result (writing_stands score before later after (read.sources, _, has_listed score before read.sources _ c.draw_machines.new.states _ (machines_are score _ _ c.draw_machines.new.states c.in_ok-states.ensures.named c.in_ok-states.ensures.drawn c.draw_machines.ensures.named c.in_ok-draw_machines.ensures.drawn c.in_ok-draw_machines.ensures.placed) read.gathered read.stands c.in_ok-points.ensures.points) counts c.write.ensures.counts) c.write.ensures.fault
+    let effects = c.in_ok-design.ensures.effects in
+    let db = c.in_ok-db.ensures in
+    let counts = CountsUp-trans before middle later effects.counts db.effects.counts in
+    let here = subst (λ ps. AreAllPoints (design_view c.in_ok-design.field-0.design) c.draw_machines.new.states ps) (sym c.deref.ensures) c.in_ok-points.ensures.points in
+    let machines = machines_are score _ _ c.draw_machines.new.states c.in_ok-states.ensures.named c.in_ok-states.ensures.drawn c.draw_machines.ensures.named c.in_ok-draw_machines.ensures.drawn c.in_ok-draw_machines.ensures.placed in
+    let has = has_listed score before read.sources _ c.draw_machines.new.states _ machines read.gathered read.stands c.in_ok-points.ensures.points in
+    let scored = text_is_scored score read.sources _ _ _ _ before middle has read.names effects.files (db.scored c.draw_machines.new.states here) c.in_ok-text.ensures.text in
+    IfErr-map c.write.result (writing_stands score before later after (c.in_ok-text.text, scored) (KeepsFiles-trans before middle later effects.files db.effects.files) counts c.write.ensures.counts) c.write.ensures.fault
 
 pub returns-clause-early : goal.returns-clause-early
 returns-clause-early g c =
     let later = g.H.Host.outside c.db_of.new.host in
     let after = g.H.Host.outside c.write.new.host in
     IfErr-map c.write.result (λ fault is early. absurd (writing_is_late _ later after fault is early)) c.write.ensures.fault
+
+pub returns-in_err-design-clause-left : goal.returns-in_err-design-clause-left
+returns-in_err-design-clause-left g c =
+    let score = score_values c.args.words.now in
+    let before = g.H.Host.outside c.args.host.now in
+    let middle = g.H.Host.outside c.design_of.new.host in
+    OnErr-intro c.from_residual.result (leaves_all before middle (IsScoredText score before) (Some score.output) c.in_err-design.ensures.effects)
+
+pub returns-in_err-states-clause-left : goal.returns-in_err-states-clause-left
+returns-in_err-states-clause-left g c =
+    let score = score_values c.args.words.now in
+    let before = g.H.Host.outside c.args.host.now in
+    let middle = g.H.Host.outside c.design_of.new.host in
+    OnErr-intro c.from_residual-in_err-states.result (leaves_all before middle (IsScoredText score before) (Some score.output) c.in_ok-design.ensures.effects)
+
+pub returns-in_err-draw_machines-clause-left : goal.returns-in_err-draw_machines-clause-left
+returns-in_err-draw_machines-clause-left g c =
+    let score = score_values c.args.words.now in
+    let before = g.H.Host.outside c.args.host.now in
+    let middle = g.H.Host.outside c.design_of.new.host in
+    OnErr-intro c.from_residual-in_err-draw_machines.result (leaves_all before middle (IsScoredText score before) (Some score.output) c.in_ok-design.ensures.effects)
+
+pub returns-in_err-points-clause-left : goal.returns-in_err-points-clause-left
+returns-in_err-points-clause-left g c =
+    let score = score_values c.args.words.now in
+    let before = g.H.Host.outside c.args.host.now in
+    let middle = g.H.Host.outside c.design_of.new.host in
+    OnErr-intro c.from_residual-in_err-points.result (leaves_all before middle (IsScoredText score before) (Some score.output) c.in_ok-design.ensures.effects)
+
+pub returns-in_err-db-clause-left : goal.returns-in_err-db-clause-left
+returns-in_err-db-clause-left g c =
+    let score = score_values c.args.words.now in
+    let before = g.H.Host.outside c.args.host.now in
+    let middle = g.H.Host.outside c.design_of.new.host in
+    let after = g.H.Host.outside c.db_of.new.host in
+    OnErr-intro c.from_residual-in_err-db.result (leaves_all before after (IsScoredText score before) (Some score.output) (OnlyReads-trans before middle after c.in_ok-design.ensures.effects c.in_err-db.ensures.effects))
+
+pub returns-in_err-text-clause-left : goal.returns-in_err-text-clause-left
+returns-in_err-text-clause-left g c =
+    let score = score_values c.args.words.now in
+    let before = g.H.Host.outside c.args.host.now in
+    let middle = g.H.Host.outside c.design_of.new.host in
+    let after = g.H.Host.outside c.db_of.new.host in
+    OnErr-intro c.from_residual-in_err-text.result (leaves_all before after (IsScoredText score before) (Some score.output) (OnlyReads-trans before middle after c.in_ok-design.ensures.effects c.in_ok-db.ensures.effects))
+
+pub returns-clause-left : goal.returns-clause-left
+returns-clause-left g c =
+    let score = score_values c.args.words.now in
+    let before = g.H.Host.outside c.args.host.now in
+    let middle = g.H.Host.outside c.design_of.new.host in
+    let later = g.H.Host.outside c.db_of.new.host in
+    let after = g.H.Host.outside c.write.new.host in
+    let read = c.in_ok-design.ensures.read in
+    let effects = c.in_ok-design.ensures.effects in
+    let db = c.in_ok-db.ensures in
+    let here = subst (λ ps. AreAllPoints (design_view c.in_ok-design.field-0.design) c.draw_machines.new.states ps) (sym c.deref.ensures) c.in_ok-points.ensures.points in
+    let machines = machines_are score _ _ c.draw_machines.new.states c.in_ok-states.ensures.named c.in_ok-states.ensures.drawn c.draw_machines.ensures.named c.in_ok-draw_machines.ensures.drawn c.in_ok-draw_machines.ensures.placed in
+    let has = has_listed score before read.sources _ c.draw_machines.new.states _ machines read.gathered read.stands c.in_ok-points.ensures.points in
+    let scored = text_is_scored score read.sources _ _ _ _ before middle has read.names effects.files (db.scored c.draw_machines.new.states here) c.in_ok-text.ensures.text in
+    on_err_weaker c.write.result (leaves_front before later after (IsScoredText score before) (Some score.output) c.in_ok-text.text scored (OnlyReads-trans before middle later effects db.effects)) c.write.ensures.front
