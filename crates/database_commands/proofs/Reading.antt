@@ -1,7 +1,7 @@
 -- What was read of files that have not changed since.
-use Rattle.std.proofs.Common.{◌≡◌, ℕ, ◌≤◌, List, [], ◌∷◌, ◌++◌, Option, None, Some, sym, ◌∙◌, inl, inr}
-use Rattle.std.specs.Prelude.{IfSome, MatchOption}
-use Rattle.cov_host.specs.Outside.{Files, IsCounted, KeepsFiles, Outside, SameFiles, Told}
+use Rattle.std.proofs.Common.{◌≡◌, ℕ, List, [], ◌∷◌, ◌++◌, Option, None, Some, sym, ◌∙◌}
+use Rattle.std.specs.Prelude.{IfSome}
+use Rattle.cov_host.specs.Outside.{Files, KeepsFiles, Outside, SameFiles, Told}
 use Rattle.coverage_db.specs.Text.{text_of}
 use Rattle.coverage_db.specs.declared.db.Db.{Db}
 use Rattle.coverage_db.specs.declared.fault.DbKind.{DbKind}

@@ -1,4 +1,4 @@
-use Rattle.std.proofs.Common.{◌∙◌, Some, ap, subst}
+use Rattle.std.proofs.Common.{Some, subst}
 use Rattle.std.proofs.lemmas.Result.{IfErr-weaker, err_from_is_err_and, on_err_weaker, on_ok_weaker}
 use Rattle.command_line.specs.LcovWords.{lcov_values}
 use Rattle.cov_host.specs.Outside.{HasFile, Told}
@@ -51,13 +51,6 @@ returns-in_err-table-clause-left g c =
     let before = g.H.Host.outside c.args.host.now in
     let after = g.H.Host.outside c.read_table.new.host in
     OnErr-intro c.from_residual.result (leaves_all before after (IsTracedText lcov before) (Some lcov.output) c.read_table.ensures.effects)
-
-pub returns-in-Err-clause-left : goal.returns-in-Err-clause-left
-returns-in-Err-clause-left g c =
-    let lcov = lcov_values c.args.words.now in
-    let before = g.H.Host.outside c.args.host.now in
-    let after = g.H.Host.outside c.read_table.new.host in
-    leaves_all before after (IsTracedText lcov before) (Some lcov.output) c.read_table.ensures.effects
 
 pub returns-in-Ok-clause-left : goal.returns-in-Ok-clause-left
 returns-in-Ok-clause-left g c =

@@ -30,13 +30,6 @@ returns-in_err-table-clause-left g c =
     let after = g.H.Host.outside c.merge_tables.new.host in
     OnErr-intro c.from_residual.result (leaves_all before after (IsMergedText merge before) (Some merge.output) c.merge_tables.ensures.effects)
 
-pub returns-in-Err-clause-left : goal.returns-in-Err-clause-left
-returns-in-Err-clause-left g c =
-    let merge = merge_values c.args.words.now in
-    let before = g.H.Host.outside c.args.host.now in
-    let after = g.H.Host.outside c.merge_tables.new.host in
-    leaves_all before after (IsMergedText merge before) (Some merge.output) c.merge_tables.ensures.effects
-
 pub returns-in-Ok-clause-left : goal.returns-in-Ok-clause-left
 returns-in-Ok-clause-left g c =
     let merge = merge_values c.args.words.now in

@@ -52,13 +52,6 @@ returns-in_err-table-clause-left g c =
     let after = g.H.Host.outside c.read_table.new.host in
     OnErr-intro c.from_residual.result (leaves_all before after (IsReportedText report before) report.output c.read_table.ensures.effects)
 
-pub returns-in-Err-clause-left : goal.returns-in-Err-clause-left
-returns-in-Err-clause-left g c =
-    let report = report_values c.args.words.now in
-    let before = g.H.Host.outside c.args.host.now in
-    let after = g.H.Host.outside c.read_table.new.host in
-    leaves_all before after (IsReportedText report before) report.output c.read_table.ensures.effects
-
 pub returns-in-Ok-clause-left : goal.returns-in-Ok-clause-left
 returns-in-Ok-clause-left g c =
     let report = report_values c.args.words.now in
