@@ -1,11 +1,11 @@
 -- What was read of a file, and when a file is there.
 use Rattle.std.proofs.Common.{◌≡◌, ℕ, ◌+◌, ◌≤◌, nat_lt, Bool, true, false, if◌then◌else◌, List, [], ◌∷◌, ◌++◌, length, Option, None, Some, refl, sym, ap, subst, ◌∙◌, inl, inr, arith}
-use Rattle.std.specs.Prelude.{IfSome, IsSomeAnd, MatchOption, ◌==◌}
+use Rattle.std.specs.Prelude.{IfSome, IsSomeAnd, ◌==◌}
 use Rattle.std.proofs.lemmas.Bool.{cases_lt}
 use Rattle.std.proofs.lemmas.Bool.Decides.{nat_tests}
 use Rattle.std.proofs.lemmas.List.{length-append}
 use Rattle.std.proofs.lemmas.List.Sums.{sum_by-append}
-use Rattle.cov_host.specs.Outside.{Files, Outside, IsCounted, SameFiles, Told}
+use Rattle.cov_host.specs.Outside.{Files, Outside, SameFiles, Told}
 use Rattle.cov_host.specs.declared.place.Place.{Place}
 use Rattle.verilog_lexer.specs.Sources.{AreWithinLimits, SourceText, refusal_of, total_length}
 use Rattle.verilog_lexer.specs.declared.fault.LexFault.TheVariants as lex_fault
