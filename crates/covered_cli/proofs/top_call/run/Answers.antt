@@ -26,7 +26,10 @@ pub returns-in-Ok-clause-done : goal.returns-in-Ok-clause-done
 returns-in-Ok-clause-done g c = OnOk-map c.run_command.result (command_is_done _ _ _ _ c.in-Ok.ensures.command) c.run_command.ensures.done
 
 pub returns-in-Ok-clause-left : goal.returns-in-Ok-clause-left
-returns-in-Ok-clause-left g c = on_err_weaker c.run_command.result (leaves_in_call _ _ _ _ c.in-Ok.ensures.command) c.run_command.ensures.left
+returns-in-Ok-clause-left g c =
+    let before = g.H.Host.outside c.args.host.now in
+    let after = g.H.Host.outside c.run_command.new.host in
+    on_err_weaker c.run_command.result (leaves_in_call c.args.words.now c.in-Ok.command before after c.in-Ok.ensures.command) c.run_command.ensures.left
 
 pub returns-in-Err-clause-left : goal.returns-in-Err-clause-left
 returns-in-Err-clause-left g c = inl (KeepsFiles-refl (g.H.Host.outside c.args.host.now), refl)

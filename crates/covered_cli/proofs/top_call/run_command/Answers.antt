@@ -1,0 +1,10 @@
+use Rattle.covered_cli.proofs.top_call.run_command.Goals as goal
+
+pub returns-in-Err-clause-left : goal.returns-in-Err-clause-left
+returns-in-Err-clause-left g c = rw c.in-Merge.is c.in-Err.ensures.left
+
+pub returns-in-Err-run_report-clause-left : goal.returns-in-Err-run_report-clause-left
+returns-in-Err-run_report-clause-left g c = rw c.in-Report.is c.in-Err-run_report.ensures.left
+
+pub returns-in-Err-run_lcov-clause-left : goal.returns-in-Err-run_lcov-clause-left
+returns-in-Err-run_lcov-clause-left g c = rw c.in-Lcov.is c.in-Err-run_lcov.ensures.left
