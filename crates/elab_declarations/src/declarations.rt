@@ -79,17 +79,17 @@ impl<'a> Declarations<'a> {
         ensures { result ≡ spec.is_declared_again self.now (declaration_view declaration.now) }
     {
         match self.found.get(declaration.name.name.as_slice()) {
-            Some(first) => first.clashes(declaration),
+            Some(first) => !first.completes(declaration),
             None => false,
         }
     }
 
-    /// Whether a name has a direction, or a fault in its declaration.
+    /// Whether a name has a direction.
     pub(crate) fn is_port(&self, name: &Name) -> bool
         ensures { result ≡ spec.is_port self.now name.now }
     {
         match self.found.get(name.as_slice()) {
-            Some(declaration) => declaration.is_port(),
+            Some(declaration) => declaration.has_direction(),
             None => false,
         }
     }

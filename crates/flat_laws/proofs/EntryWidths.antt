@@ -25,7 +25,7 @@ use Rattle.elab_const.proofs.AnswerLemmas.{none_in_turn, width_within}
 use Rattle.elab_const.proofs.ContextLemmas.{length-fit}
 use Rattle.flat_design.specs.Bodies.{in_turn}
 use Rattle.flat_design.specs.Connections.{Connection, connection, connections, free_names, override_of, override_value_faults, override_faults, overrides, are_sound_overrides, given_faults}
-use Rattle.flat_design.specs.Declarations.{Declaration, Override, Sort, a_net, a_variable, words_from, an_integer, a_parameter, some_instance, faulty, is_faulty, is_sound_vector, override_or, overridden, param_entry, param_faults, range_value, ranged_value, typed_value, vector_faults, with_param, constants_from}
+use Rattle.flat_design.specs.Declarations.{Declaration, Override, Sort, a_net, a_variable, words_from, an_integer, a_parameter, some_instance, faulty, faulty_memory, is_faulty, is_sound_vector, override_or, overridden, param_entry, param_faults, range_value, ranged_value, typed_value, vector_faults, with_param, constants_from}
 use Rattle.flat_design.specs.Expressions.{constant_faults, faults}
 use Rattle.flat_design.specs.Fault.{none}
 use Rattle.flat_design.specs.Identifiers.{base_name, is_among, names_of, params_of}
@@ -259,6 +259,7 @@ entry_width os aliases m s k d d_in = by_signal (is_signal m d) refl
     by_sort a_parameter is = tt
     by_sort some_instance is = tt
     by_sort faulty is = tt
+    by_sort faulty_memory is = tt
 
     by_signal : (b : Bool) → is_signal m d ≡ b → EntryWidth (Some (if b then signal_entry (unwrap_or (alias_number aliases d.name.name) s) d else other_entry k d d.sort))
     by_signal true is = declared_width os m d d_in (signal_sort_sound m d.name.name d.sort is)

@@ -97,7 +97,7 @@ all_bounded g m d h = by_part (in_append d (map (λ p. declaration p.name.place 
 
 declared_bounded : (os : List Override) (m : Module) (d : Declaration) → In d (declared os m) → HasBounds d
 declared_bounded os m d h =
-    from_all HasBounds (λ c e k l. record { bounds = k.bounds }) [] (all_declarations (constant_scope os m) m) (λ x k. absurd k) (all_bounded (constant_scope os m) m) d h
+    from_all HasBounds (λ c e k o l. record { bounds = k.bounds }) [] (all_declarations (constant_scope os m) m) (λ x k. absurd k) (all_bounded (constant_scope os m) m) d h
 
 -- what the range of a signal is taken to be
 pub record HasBoundedSignals (g : Scope) : Type 0 where

@@ -6,7 +6,7 @@ use Rattle.cov_host.specs.declared.place.Place.{Place}
 use Rattle.design_model.specs.Design.{In}
 use Rattle.verilog_tree.specs.declared.item.Named.{Named}
 use Rattle.verilog_tree.specs.Tree.{Param, ItemForm, initial_item, port_item, net_item, variable_item, integer_item, parameter_item, continuous_item, always_item, instance_item, Item, Module}
-use Rattle.flat_design.specs.Declarations.{Declaration, Override, Sort, a_net, a_variable, words_from, an_integer, a_parameter, some_instance, faulty, declaration, item_declarations, all_declarations, param_entry, with_param, constants_from}
+use Rattle.flat_design.specs.Declarations.{Declaration, Override, Sort, a_net, a_variable, words_from, an_integer, a_parameter, some_instance, faulty, faulty_memory, declaration, item_declarations, all_declarations, param_entry, with_param, constants_from}
 use Rattle.flat_design.specs.Identifiers.{names_of, declared_names, params_of, item_params}
 use Rattle.flat_design.specs.Instances.{Instantiation, constants, constant_scope, other_names, declared, other_entry, signal_entry, entries, scope_of, is_signal, alias_number}
 use Rattle.flat_design.specs.Scope.{Scope, Bindings, binding_of, entry_or, with_bindings, look_up}
@@ -55,7 +55,7 @@ declarations_named g m d h = by_part (in_append d (map (λ p. declaration p.name
 
 pub declared_named : (os : List Override) (m : Module) (d : Declaration) → In d (declared os m) → In d.name (names_of m)
 declared_named os m d h =
-    (from_all (IsNamed (names_of m)) (λ c e k l. record { named = k.named }) [] (all_declarations (constant_scope os m) m) (λ x k. absurd k) (declarations_named (constant_scope os m) m) d h).named
+    (from_all (IsNamed (names_of m)) (λ c e k o l. record { named = k.named }) [] (all_declarations (constant_scope os m) m) (λ x k. absurd k) (declarations_named (constant_scope os m) m) d h).named
 
 params_in_form : (form : ItemForm) (p : Param) → In p (item_params form) → In p.name (declared_names form)
 params_in_form (parameter_item ps) p h = in_map_back (λ x. x.name) p ps h
@@ -126,6 +126,7 @@ other_told k d an_integer = refl
 other_told k d a_parameter = refl
 other_told k d some_instance = refl
 other_told k d faulty = refl
+other_told k d faulty_memory = refl
 
 pub scope_told : (i : Instantiation) (s k : ℕ) (x : List ℕ) → is_no_constant_entry (look_up (scope_of i s k) x) ≡ false
 scope_told i s k x =

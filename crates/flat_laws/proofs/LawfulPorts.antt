@@ -10,7 +10,7 @@ use Rattle.design_model.specs.declared.design.Signal.{Signal}
 use Rattle.verilog_tree.specs.declared.item.Named.{Named}
 use Rattle.verilog_tree.specs.Tree.{Expr, InstanceItem, Item, Module, One}
 use Rattle.flat_design.specs.Connections.{overrides, as_alias, by_assignment, joining, JoinedPort, Connection, connections, connection_of, declaration_of, is_sound_port, with_value, with_connection, declared_port, joined_port, port_alias}
-use Rattle.flat_design.specs.Declarations.{Declaration, Sort, a_net, a_variable, words_from, an_integer, a_parameter, some_instance, faulty}
+use Rattle.flat_design.specs.Declarations.{Declaration, Sort, a_net, a_variable, words_from, an_integer, a_parameter, some_instance, faulty, faulty_memory}
 use Rattle.flat_design.specs.Identifiers.{params_of}
 use Rattle.flat_design.specs.Instances.{Instantiation, Sofar, PortAliases, opened, Context, context, constants, other_names, declared, declared_entry, other_entry, entries, alias_number, is_own, is_memory, is_signal, signal_entry, signal_of, scope_of}
 use Rattle.flat_design.specs.Numbering.{one_if}
@@ -36,6 +36,7 @@ other_no_signal k d an_integer e h = cc
 other_no_signal k d a_parameter e h = cc
 other_no_signal k d some_instance e h = cc
 other_no_signal k d faulty e h = cc
+other_no_signal k d faulty_memory e h = cc
 
 signal_number : (n : ℕ) (d : Declaration) (e : SignalEntry) → Some (signal_entry n d) ≡ Some (a_signal e) → n ≡ e.number
 signal_number n d e h = ap number_in h

@@ -15,7 +15,7 @@ use Rattle.design_model.specs.declared.design.Signal.{Signal}
 use Rattle.verilog_tree.specs.declared.item.Named.{Named}
 use Rattle.verilog_tree.specs.Tree.{Expr, Module, One, InstanceItem, Param, identifier}
 use Rattle.flat_design.specs.Connections.{overrides, Joined, as_alias, by_assignment, not_joined, takes_output, joined_name, joining, joined_faults, JoinedPort, Connection, connections, connection_of, declaration_of, is_sound_port, with_value, with_connection, declared_port, joined_port, alias_as, port_alias}
-use Rattle.flat_design.specs.Declarations.{Declaration, Override, Sort, a_net, a_variable, words_from, an_integer, a_parameter, some_instance, faulty, is_net, same_range, param_entry, param_faults, is_sound_vector, typed_value, overridden, with_param, constants_from}
+use Rattle.flat_design.specs.Declarations.{Declaration, Override, Sort, a_net, a_variable, words_from, an_integer, a_parameter, some_instance, faulty, faulty_memory, is_net, same_range, param_entry, param_faults, is_sound_vector, typed_value, overridden, with_param, constants_from}
 use Rattle.flat_design.specs.Identifiers.{params_of}
 use Rattle.flat_design.specs.Instances.{Instantiation, Sofar, PortAliases, opened, Context, context, constants, other_names, declared, declared_entry, other_entry, entries, alias_number, is_own, is_memory, is_signal, is_input, signal_entry, signal_of, memory_of, sort_words, is_memory_sort}
 use Rattle.flat_design.specs.Numbering.{one_if}
@@ -153,6 +153,7 @@ declared_matches aliases m number top d ds xs fs rs ys ks us e1 e2 aliased = by_
     by_sort a_parameter is = tt
     by_sort some_instance is = tt
     by_sort faulty is = tt
+    by_sort faulty_memory is = tt
 
     by_signal : (b : Bool) → is_signal m d ≡ b → EntryMatches xs ys (Some (if b then signal_entry (unwrap_or (alias_number aliases d.name.name) (length fs)) d else other_entry (length ks) d d.sort))
     by_signal true is = by_alias is (alias_number aliases d.name.name) refl

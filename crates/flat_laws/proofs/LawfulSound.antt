@@ -8,7 +8,7 @@ use Rattle.design_model.specs.Design.{In}
 use Rattle.design_model.specs.declared.design.Range.{Range}
 use Rattle.verilog_tree.specs.declared.item.Named.{Named}
 use Rattle.verilog_tree.specs.Tree.{Expr, RangeExpr, Param, ItemForm, initial_item, port_item, net_item, variable_item, integer_item, parameter_item, continuous_item, always_item, instance_item, Item, Module, Declared}
-use Rattle.flat_design.specs.Declarations.{Declaration, Override, Sort, a_net, a_variable, words_from, an_integer, a_parameter, some_instance, faulty, bounds_faults, vector_faults, words_faults, is_sound_range, is_sound_vector, param_faults, param_entry, typed_value, overridden, with_param, constants_from, constants_faults, declaration, sort_if, words_sort, item_declarations, item_range_faults, declared_words_faults, all_declarations, is_variable, is_faulty, completes, completed, twice_faults, listed_twice, direction_faults}
+use Rattle.flat_design.specs.Declarations.{Declaration, Override, Sort, a_net, a_variable, words_from, an_integer, a_parameter, some_instance, faulty, faulty_memory, bounds_faults, vector_faults, words_faults, is_sound_range, is_sound_vector, param_faults, param_entry, typed_value, overridden, with_param, constants_from, constants_faults, declaration, sort_if, words_sort, item_declarations, item_range_faults, declared_words_faults, all_declarations, is_variable, is_faulty, completes, completed, twice_faults, listed_twice, direction_faults}
 use Rattle.flat_design.specs.Expressions.{constant_faults, faults}
 use Rattle.flat_design.specs.Fault.{none}
 use Rattle.flat_design.specs.Identifiers.{identifiers, is_among, params_of, item_params, names_of}
@@ -18,7 +18,7 @@ use Rattle.flat_design.specs.Scope.{Scope, Bindings, binding_of, entry_or, with_
 use Rattle.flat_design.specs.declared.entry.Entry.{Entry}
 use Rattle.flat_design.specs.declared.entry.Entry.TheVariants.{Constant as a_constant, NoConstant as no_constant, Faulty as a_faulty_one}
 use Rattle.flat_laws.proofs.Freedom.{both_empty}
-use Rattle.flat_laws.proofs.LawfulDeclared.{from_all}
+use Rattle.flat_laws.proofs.LawfulDeclared.{completed_kept, from_all}
 use Rattle.flat_laws.proofs.LawfulEvents.{each_empty}
 use Rattle.flat_laws.proofs.LawfulScope.{same_bytes, bytes_same}
 use Rattle.flat_laws.proofs.Members.{in_append, in_left, in_right, in_map, in_flat_map, in_flat_map_back}
@@ -128,9 +128,11 @@ either_sort : (P : Sort → Type 0) (b : Bool) → P a_variable → P a_net → 
 either_sort P true h k = h
 either_sort P false h k = k
 
-completed_fine : (m : Module) (c d : Declaration) → IsFine m c → completes c d ≡ true → IsFine m (completed c d)
+completed_fine : (m : Module) (c d : Declaration) → IsFine m c → IsFine m d → completes c d ≡ true → IsFine m (completed c d)
 unfolding not_parameter
-completed_fine m c d h k = fine_sort m (completed c d) (either_sort (λ s. is_faulty s ≡ false) (is_variable c.sort || is_variable d.sort) refl refl) (either_sort (λ s. not_parameter s ≡ true) (is_variable c.sort || is_variable d.sort) refl refl)
+completed_fine m c d h o k =
+    let v : Bool = is_variable c.sort || is_variable d.sort in
+    fine_sort m (completed c d) (completed_kept (λ s. is_faulty s ≡ false) (is_faulty c.sort) (is_faulty d.sort) v h.sound o.sound refl refl) (completed_kept (λ s. not_parameter s ≡ true) (is_faulty c.sort) (is_faulty d.sort) v h.sound o.sound refl refl)
 
 -- a sort that is kept where the range is sound
 kept_sort : (P : Sort → Type 0) (b : Bool) (s : Sort) → b ≡ true → P s → P (sort_if b s)
@@ -236,6 +238,7 @@ sort_not_faulty m x k d an_integer n a b = refl
 sort_not_faulty m x k d some_instance n a b = refl
 sort_not_faulty m x k d a_parameter n a b = absurd (b refl)
 sort_not_faulty m x k d faulty n a b = absurd (false≢true (sym a))
+sort_not_faulty m x k d faulty_memory n a b = absurd (false≢true (sym a))
 sort_not_faulty m x k d a_net n a b = absurd (false≢true (sym n))
 sort_not_faulty m x k d a_variable n a b = absurd (false≢true (sym n))
 
