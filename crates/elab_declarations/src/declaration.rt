@@ -50,6 +50,13 @@ impl Sort {
         matches!(self, Sort::Net | Sort::Variable | Sort::Faulty)
     }
 
+    /// A parameter.
+    pub(crate) fn is_parameter(self) -> bool
+        ensures { result ≡ spec.is_parameter (sort_view self) }
+    {
+        matches!(self, Sort::Parameter)
+    }
+
     /// Whether its range has a fault.
     fn is_faulty(self) -> bool
         ensures { result ≡ spec.is_faulty (sort_view self) }

@@ -84,6 +84,16 @@ impl<'a> Declarations<'a> {
         }
     }
 
+    /// Whether a name is declared as a parameter.
+    pub fn is_parameter(&self, name: &Name) -> bool
+        ensures { result ≡ spec.names_parameter self.now name.now }
+    {
+        match self.found.get(name.as_slice()) {
+            Some(declaration) => declaration.sort.is_parameter(),
+            None => false,
+        }
+    }
+
     /// Whether a name has a direction.
     pub(crate) fn is_port(&self, name: &Name) -> bool
         ensures { result ≡ spec.is_port self.now name.now }

@@ -183,6 +183,11 @@ abbrev pub is_variable : Sort → Bool
 is_variable a_variable = true
 is_variable _ = false
 
+-- declared as a parameter
+abbrev pub is_parameter : Sort → Bool
+is_parameter a_parameter = true
+is_parameter _ = false
+
 -- its declaration has a fault
 abbrev pub is_faulty : Sort → Bool
 is_faulty faulty = true
@@ -257,6 +262,10 @@ listed_twice sofar (x ∷ xs) = fault_if (is_among sofar x.name) (fault_at Twice
 -- a name with a direction
 abbrev pub is_port : List Declaration → List ℕ → Bool
 is_port ds x = list_any (λ d. bytes_eq d.name.name x && has_direction d) ds
+
+-- the name is declared as a parameter; of two declarations the first counts
+abbrev pub names_parameter : List Declaration → List ℕ → Bool
+names_parameter ds x = list_any (λ d. bytes_eq d.name.name x && is_parameter d.sort) ds
 
 -- the listed ports without direction
 abbrev pub direction_faults : List Declaration → List Named → List Fault

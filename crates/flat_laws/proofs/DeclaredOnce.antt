@@ -12,10 +12,10 @@ use Rattle.flat_design.specs.Instances.{constants, constant_scope, declaration_f
 use Rattle.flat_design.specs.Scope.{Scope, Bindings, binding_of, with_bindings}
 use Rattle.flat_design.specs.declared.entry.Entry.{Entry}
 use Rattle.flat_laws.proofs.Distinct.{AreApart, distinct_join}
-use Rattle.flat_laws.proofs.Freedom.{both_empty, neither, not_told}
+use Rattle.flat_laws.proofs.Freedom.{both_empty, not_told}
 use Rattle.flat_laws.proofs.LawfulNames.{in_map_back}
 use Rattle.flat_laws.proofs.LawfulScope.{bytes_same, same_bytes}
-use Rattle.flat_laws.proofs.LawfulSound.{no_declaration_faults}
+use Rattle.flat_laws.proofs.LawfulSound.{no_declaration_faults, none_passes}
 use Rattle.flat_laws.proofs.Members.{in_append, in_left, in_right, in_flat_map, in_flat_map_back}
 
 -- the name of a declaration
@@ -88,12 +88,6 @@ plain_second c d plain h =
     let q = and_parts _ _ p.0 in
     let r = and_parts _ _ q.0 in
     false≢true (sym (not_true (is_vector d.sort) plain) ∙ r.1)
-
--- a test that none passes
-none_passes : {A : Type 0} (p : A → Bool) (xs : List A) (x : A) → list_any p xs ≡ false → In x xs → p x ≡ false
-none_passes p [] x h k = absurd k
-none_passes p (y ∷ ys) x h (inl e) = subst (λ z. p z ≡ false) e (neither (p y) (list_any p ys) h).0
-none_passes p (y ∷ ys) x h (inr k) = none_passes p ys x (neither (p y) (list_any p ys) h).1 k
 
 -- what is neither net nor variable is not declared again
 pub not_again : (sofar : List Declaration) (c d : Declaration) → is_plain d.sort ≡ true → is_declared_again sofar d ≡ false → In c sofar → name_of c ≡ name_of d → ⊥
