@@ -76,7 +76,7 @@ module _ (alloc : Global) (merge : MergeValues) (before after : Outside) (good :
 
   pub good_merge : (fault : CommandFault) → IsMergeFault merge before after fault → fault ≡ Memory
   good_merge (Files call file) (inl is) = absurd (none (refused_there before after call file.now (good_at file.now is.1).0 (good_at file.now is.1).1 is.2))
-  good_merge (Files call file) (inr is) = absurd (none (refused_write before after call file.now is.0 is.2))
+  good_merge (Files call file) (inr (writing, named, refused, has)) = absurd (none (refused_write before after call file.now writing refused))
   good_merge Print is = absurd is
   good_merge Memory is = refl
   good_merge (NoDatabase file kind line) is = let at = good_at file.now is.0 in absurd (table_there before file.now at.0 kind line at.1 is.1)
@@ -89,8 +89,8 @@ module _ (alloc : Global) (merge : MergeValues) (before after : Outside) (good :
 pub good_report : (report : ReportValues) (before after : Outside) → IsGoodReport report before → NoFaults before after → (fault : CommandFault) → IsReportFault report before after fault → fault ≡ Memory
 good_report report before after good none (Files call file) (inl is) =
     absurd (none (refused_there before after call file.now good.0 (subst (λ name. HasTable before name good.0) (sym is.1) good.1) is.2))
-good_report report before after good none (Files call file) (inr is) = absurd (none (refused_write before after call file.now is.0 is.2))
-good_report report before after good none Print is = absurd (none is.1)
+good_report report before after good none (Files call file) (inr (writing, named, refused, holds)) = absurd (none (refused_write before after call file.now writing refused))
+good_report report before after good none Print (unnamed, counted, holds) = absurd (none counted)
 good_report report before after good none Memory is = refl
 good_report report before after good none (NoDatabase file kind line) is =
     absurd (table_there before file.now good.0 kind line (subst (λ name. HasTable before name good.0) (sym is.0) good.1) is.1)

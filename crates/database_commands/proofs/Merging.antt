@@ -9,7 +9,7 @@ use Rattle.coverage_db.specs.Table.{IsTable}
 use Rattle.coverage_db.specs.declared.db.Db.{Db}
 use Rattle.whole_files.specs.Effects.{CountsUp, OnlyReads}
 use Rattle.whole_files.proofs.EffectLemmas.{OnlyReads-trans}
-use Rattle.database_commands.specs.Faults.{ComesTo, IsJoinFault, IsMergeFault, IsNoTable, IsRefused, IsTableFault, IsWriteFault, inputs_of}
+use Rattle.database_commands.specs.Faults.{ComesTo, HasMerge, IsJoinFault, IsMergeFault, IsNoTable, IsRefused, IsTableFault, IsWriteFault, inputs_of}
 use Rattle.database_commands.specs.Files.{HoldTables, HoldsTable}
 use Rattle.database_commands.specs.Merging.{IsMergeOf}
 use Rattle.database_commands.specs.declared.fault.CommandFault.{CommandFault}
@@ -136,10 +136,10 @@ join_fault merge before now after file left rest table other has next holds (Des
 )
 
 -- the output was not written
-pub write_fault : (merge : MergeValues) (before now after : Outside) → OnlyReads before now → CountsUp now after → (fault : CommandFault) → IsWriteFault merge.output now after fault → IsMergeFault merge before after fault
-write_fault merge before now after effects later (Files call file) is =
-    inr (is.1, is.0, refused_before before now after call file.now effects later is.2)
-write_fault merge before now after effects later Print is = absurd is
-write_fault merge before now after effects later Memory is = tt
-write_fault merge before now after effects later (NoDatabase file kind line) is = absurd is
-write_fault merge before now after effects later (DesignsDiffer file line first other) is = absurd is
+pub write_fault : (merge : MergeValues) (before now after : Outside) → HasMerge merge before → OnlyReads before now → CountsUp now after → (fault : CommandFault) → IsWriteFault merge.output now after fault → IsMergeFault merge before after fault
+write_fault merge before now after has effects later (Files call file) is =
+    inr (is.1, is.0, refused_before before now after call file.now effects later is.2, has)
+write_fault merge before now after has effects later Print is = absurd is
+write_fault merge before now after has effects later Memory is = tt
+write_fault merge before now after has effects later (NoDatabase file kind line) is = absurd is
+write_fault merge before now after has effects later (DesignsDiffer file line first other) is = absurd is

@@ -1,13 +1,23 @@
 -- A report that was given, and why one was not.
-use Rattle.std.proofs.Common.{◌∙◌, ℕ, List, Option, None, Some, sym, subst, inl}
+use Rattle.std.proofs.Common.{◌∙◌, ℕ, List, Option, None, Some, sym, subst, inl, inr}
 use Rattle.command_line.specs.DatabaseWords.{ReportValues}
 use Rattle.cov_host.specs.Outside.{Appends, Files as HostFiles, HasFile, Outside, SameFiles, Told}
-use Rattle.whole_files.specs.Effects.{OnlyReads}
-use Rattle.whole_files.proofs.EffectLemmas.{Told-trans}
+use Rattle.whole_files.specs.Effects.{CountsUp, OnlyReads}
+use Rattle.whole_files.proofs.EffectLemmas.{IsCounted-earlier, Told-trans}
 use Rattle.database_commands.specs.Faults.{IsNoTable, IsRefused, IsTableFault}
-use Rattle.database_commands.specs.Reporting.{GivesText, IsReportFault}
+use Rattle.database_commands.specs.Files.{HoldsSome}
+use Rattle.database_commands.specs.Reporting.{GivesText, IsGiveFault, IsReportFault}
 use Rattle.database_commands.specs.declared.fault.CommandFault.{CommandFault}
 use Rattle.database_commands.specs.declared.fault.CommandFault.TheVariants.{Files, Print, Memory, NoDatabase, DesignsDiffer}
+use Rattle.database_commands.proofs.Reading.{refused_before}
+
+-- a report was not given of a file that holds a table
+pub report_give_fault : (report : ReportValues) (before now after : Outside) → HoldsSome before report.file → OnlyReads before now → CountsUp now after → (fault : CommandFault) → IsGiveFault report.output now after fault → IsReportFault report before after fault
+report_give_fault report before now after holds effects later (Files call file) is = inr (is.0, is.1, refused_before before now after call file.now effects later is.2, holds)
+report_give_fault report before now after holds effects later Print is = (is.0, IsCounted-earlier before.faults now.faults after.faults effects.counts.faults later.faults is.1, holds)
+report_give_fault report before now after holds effects later Memory is = tt
+report_give_fault report before now after holds effects later (NoDatabase file kind line) is = absurd is
+report_give_fault report before now after holds effects later (DesignsDiffer file line first other) is = absurd is
 
 -- the file of a report was not read
 pub report_table_fault : (report : ReportValues) (before after : Outside) (fault : CommandFault) → IsTableFault report.file before after fault → IsReportFault report before after fault

@@ -13,6 +13,7 @@ use Rattle.whole_files.specs.Effects.{IsMissing}
 use Rattle.whole_files.specs.declared.call.Call.{Call}
 use Rattle.whole_files.specs.declared.call.Call.TheVariants.{OpenRead, Read}
 use Rattle.database_commands.specs.Files.{AreOfOneDesign, HoldTables, HoldsTable, IsFile}
+use Rattle.database_commands.specs.Merging.{IsMergeOf}
 use Rattle.database_commands.specs.declared.fault.CommandFault.{CommandFault}
 use Rattle.database_commands.specs.declared.fault.CommandFault.TheVariants.{Files, Print, Memory, NoDatabase, DesignsDiffer}
 
@@ -86,11 +87,15 @@ pub record IsOtherDesign (first : List ℕ) (file : List ℕ) (before : Outside)
 abbrev pub inputs_of : MergeValues → List (List ℕ)
 inputs_of merge = merge.first ∷ merge.others
 
--- a call on a file of the merge gave nothing
+-- the files hold tables of one design, which have a merge
+abbrev pub HasMerge : MergeValues → Outside → Type 0
+HasMerge merge before = (table : Db) × IsMergeOf merge before table
+
+-- a call on a file of the merge gave nothing; one on the output only where the files have a merge
 abbrev pub IsMergeCall : MergeValues → Outside → Outside → Call → List ℕ → Type 0
 IsMergeCall merge before after call file =
     (IsReading call × ComesTo (inputs_of merge) before file × IsRefused call file before after)
-    ⊎ (IsWriting call × (file ≡ merge.output) × IsRefused call file before after)
+    ⊎ (IsWriting call × (file ≡ merge.output) × IsRefused call file before after × HasMerge merge before)
 
 -- why a merge ended without its output
 abbrev pub IsMergeFault : MergeValues → Outside → Outside → CommandFault → Type 0

@@ -16,6 +16,10 @@ pub record HoldsTable (before : Outside) (name : List ℕ) (db : Db) : Type 0 wh
   pub is : IsFile before name (text_of db)
   pub short : length (text_of db) ≤ 2147483648
 
+-- the file has the text of some table
+abbrev pub HoldsSome : Outside → List ℕ → Type 0
+HoldsSome before name = (db : Db) × HoldsTable before name db
+
 -- each file has the text of its table
 abbrev pub HoldTables : Outside → List (List ℕ) → List Db → Type 0
 HoldTables before [] [] = Unit {0}

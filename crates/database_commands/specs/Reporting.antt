@@ -13,7 +13,7 @@ use Rattle.command_line.specs.declared.report_level.ReportLevel.TheVariants.{Sum
 use Rattle.command_line.specs.declared.report_metrics.ReportMetrics.{ReportMetrics}
 use Rattle.whole_files.specs.declared.call.Call.{Call}
 use Rattle.database_commands.specs.Faults.{IsNoTable, IsReading, IsRefused, IsWriting}
-use Rattle.database_commands.specs.Files.{HoldsTable, KeepsOthers}
+use Rattle.database_commands.specs.Files.{HoldsSome, HoldsTable, KeepsOthers}
 use Rattle.database_commands.specs.declared.fault.CommandFault.{CommandFault}
 use Rattle.database_commands.specs.declared.fault.CommandFault.TheVariants.{Files, Print, Memory, NoDatabase, DesignsDiffer}
 
@@ -50,16 +50,16 @@ pub record IsReportedIn (report : ReportValues) (before after : Outside) : Type 
   pub holds : HoldsTable before report.file table
   pub gives : GivesText report.output (report_text table (options_of report)) before after
 
--- a call on the file of a report, or on its output, gave nothing
+-- a call on the file of a report, or on its output where the file holds a table, gave nothing
 abbrev pub IsReportCall : ReportValues → Outside → Outside → Call → List ℕ → Type 0
 IsReportCall report before after call file =
     (IsReading call × (file ≡ report.file) × IsRefused call file before after)
-    ⊎ (IsWriting call × (report.output ≡ Some file) × IsRefused call file before after)
+    ⊎ (IsWriting call × (report.output ≡ Some file) × IsRefused call file before after × HoldsSome before report.file)
 
 -- why a report was not given
 abbrev pub IsReportFault : ReportValues → Outside → Outside → CommandFault → Type 0
 IsReportFault report before after (Files call file) = IsReportCall report before after call file.now
-IsReportFault report before after Print = (report.output ≡ None) × IsCounted before.faults after.faults
+IsReportFault report before after Print = (report.output ≡ None) × IsCounted before.faults after.faults × HoldsSome before report.file
 IsReportFault report before after Memory = Unit {0}
 IsReportFault report before after (NoDatabase file kind line) = (file.now ≡ report.file) × IsNoTable file.now before kind line
 IsReportFault report before after (DesignsDiffer file line first other) = ⊥

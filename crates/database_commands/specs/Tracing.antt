@@ -7,7 +7,7 @@ use Rattle.lcov_text.specs.Tracefile.{tracefile_text}
 use Rattle.whole_files.specs.declared.call.Call.{Call}
 use Rattle.database_commands.specs.Complete.{HasTable}
 use Rattle.database_commands.specs.Faults.{IsNoTable, IsReading, IsRefused, IsWriting}
-use Rattle.database_commands.specs.Files.{HoldsTable}
+use Rattle.database_commands.specs.Files.{HoldsSome, HoldsTable}
 use Rattle.database_commands.specs.declared.fault.CommandFault.{CommandFault}
 use Rattle.database_commands.specs.declared.fault.CommandFault.TheVariants.{Files, Print, Memory, NoDatabase, DesignsDiffer}
 
@@ -17,11 +17,11 @@ pub record IsTracedIn (lcov : LcovValues) (before after : Outside) : Type 0 wher
   pub holds : HoldsTable before lcov.file table
   pub written : Told (HasFile lcov.output (tracefile_text table)) before.files after.files
 
--- a call on the file, or on the output, gave nothing
+-- a call on the file, or on the output where the file holds a table, gave nothing
 abbrev pub IsLcovCall : LcovValues → Outside → Outside → Call → List ℕ → Type 0
 IsLcovCall lcov before after call file =
     (IsReading call × (file ≡ lcov.file) × IsRefused call file before after)
-    ⊎ (IsWriting call × (file ≡ lcov.output) × IsRefused call file before after)
+    ⊎ (IsWriting call × (file ≡ lcov.output) × IsRefused call file before after × HoldsSome before lcov.file)
 
 -- why a tracefile was not written
 abbrev pub IsLcovFault : LcovValues → Outside → Outside → CommandFault → Type 0

@@ -1,10 +1,10 @@
 use Rattle.std.proofs.Common.{◌∙◌, Some, ap, subst}
-use Rattle.std.proofs.lemmas.Result.{err_from_is_err_and, on_ok_weaker}
+use Rattle.std.proofs.lemmas.Result.{IfErr-weaker, err_from_is_err_and, on_ok_weaker}
 use Rattle.command_line.specs.LcovWords.{lcov_values}
 use Rattle.cov_host.specs.Outside.{HasFile, Told}
 use Rattle.lcov_text.specs.Tracefile.{tracefile_text}
 use Rattle.database_commands.proofs.Reporting.{gives_since}
-use Rattle.database_commands.proofs.Tracing.{good_lcov, lcov_table_fault}
+use Rattle.database_commands.proofs.Tracing.{good_lcov, lcov_table_fault, lcov_write_fault}
 use Rattle.database_commands.proofs.lcov.run_lcov.Goals as goal
 
 pub returns-in_err-table-clause-fault : goal.returns-in_err-table-clause-fault
@@ -35,3 +35,11 @@ returns-in-Ok-clause-done g c =
       holds = c.in_ok-table.ensures.table;
       written = gives_since (Some lcov.output) (tracefile_text table) before now after c.read_table.ensures.effects (subst (λ text. Told (HasFile lcov.output text) now.files after.files) c.in-Ok.ensures written);
     }) c.write.ensures.written
+
+pub returns-in-Ok-clause-fault : goal.returns-in-Ok-clause-fault
+returns-in-Ok-clause-fault g c =
+    let lcov = lcov_values c.args.words.now in
+    let before = g.H.Host.outside c.args.host.now in
+    let now = g.H.Host.outside c.read_table.new.host in
+    let after = g.H.Host.outside c.write.new.host in
+    IfErr-weaker c.write.result _ _ (lcov_write_fault lcov before now after (c.in_ok-table.table, c.in_ok-table.ensures.table) c.read_table.ensures.effects c.write.ensures.counts) c.write.ensures.fault

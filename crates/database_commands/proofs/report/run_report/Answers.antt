@@ -1,10 +1,10 @@
 use Rattle.std.proofs.Common.{◌∙◌, ap, subst}
-use Rattle.std.proofs.lemmas.Result.{err_from_is_err_and, on_ok_weaker}
+use Rattle.std.proofs.lemmas.Result.{IfErr-weaker, err_from_is_err_and, on_ok_weaker}
 use Rattle.cov_report.specs.Report.{report_text}
 use Rattle.database_commands.specs.Reporting.{GivesText, options_of}
 use Rattle.command_line.specs.DatabaseWords.{report_values}
 use Rattle.database_commands.proofs.Complete.{good_report}
-use Rattle.database_commands.proofs.Reporting.{gives_since, report_table_fault}
+use Rattle.database_commands.proofs.Reporting.{gives_since, report_give_fault, report_table_fault}
 use Rattle.database_commands.proofs.report.run_report.Goals as goal
 
 pub returns-in_err-table-clause-fault : goal.returns-in_err-table-clause-fault
@@ -36,3 +36,11 @@ returns-in-Ok-clause-done g c =
       holds = c.in_ok-table.ensures.table;
       gives = gives_since report.output (report_text table (options_of report)) before now after c.read_table.ensures.effects (subst (λ text. GivesText report.output text now after) text_is gives);
     }) c.give.ensures.gives
+
+pub returns-in-Ok-clause-fault : goal.returns-in-Ok-clause-fault
+returns-in-Ok-clause-fault g c =
+    let report = report_values c.args.words.now in
+    let before = g.H.Host.outside c.args.host.now in
+    let now = g.H.Host.outside c.read_table.new.host in
+    let after = g.H.Host.outside c.give.new.host in
+    IfErr-weaker c.give.result _ _ (report_give_fault report before now after (c.in_ok-table.table, c.in_ok-table.ensures.table) c.read_table.ensures.effects c.give.ensures.counts) c.give.ensures.fault
