@@ -93,7 +93,7 @@ module _ (score : ScoreValues) (before : Outside) (sources : List SourceText) (t
 
   -- what is done has a design
   source_done : (after : Outside) → ((design : Design) → StandFor sources (sources_in score).defines score.top design → ⊥) → IsDoneIn score before after → ⊥
-  source_done after none done = no_some_design none (done.sources, done.design, done.has_design)
+  source_done after none done = no_some_design none (done.scored.sources, done.scored.design, done.scored.has_design)
 
   no_design : ((design : Design) → StandFor sources (sources_in score).defines score.top design → ⊥) → (r : DumpRefusal) → IsRefusedDump score before r → ⊥
   no_design none r refused = no_some_design none (refused.sources, refused.design, refused.has_design)
@@ -164,8 +164,9 @@ module _ (score : ScoreValues) (before : Outside) (design : Design) (text : List
   -- a design that has no score is not done
   dump_done : (after : Outside) → HasNoScore design score.instance text → IsDoneIn score before after → ⊥
   dump_done after none done =
-      none done.scores.dump (subst (λ text. IsDump text done.scores.dump) (sym (same_text done.dump done.dump_is)) done.scores.is_dump)
-      (same_bound done.design design done.scores.dump score.instance (sym (design_found done.sources done.design done.has_design)) done.scores.scores.accepted.bound)
+      let s = done.scored in
+      none s.scores.dump (subst (λ text. IsDump text s.scores.dump) (sym (same_text s.dump s.dump_is)) s.scores.is_dump)
+      (same_bound s.design design s.scores.dump score.instance (sym (design_found s.sources s.design s.has_design)) s.scores.scores.accepted.bound)
 
 -- a design whose points are not listed has no score
 module _ (score : ScoreValues) (before : Outside) (lacks : LacksPoints score before) where
@@ -354,4 +355,4 @@ module _ (words : List (List ℕ)) (before after : Outside) (done : IsDone words
   unbound_not_done unbound = bad_dump_not_done (bad_command words before unbound)
 
   pub points_not_done : IsCommandWith LacksPoints words before → ⊥
-  points_not_done (score, is, lacks) = let by = done_by score is in not_listed score before lacks by.sources by.design by.has_design
+  points_not_done (score, is, lacks) = let by = (done_by score is).scored in not_listed score before lacks by.sources by.design by.has_design

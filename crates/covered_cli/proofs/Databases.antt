@@ -281,7 +281,7 @@ module _ (before middle after : Outside) (first : CountsUp before middle) (secon
 
   merge_fault_later : (merge : MergeValues) (f : CommandFault) → IsMergeFault merge before middle f → IsMergeFault merge before after f
   merge_fault_later merge (database.Files call file) (inl fault) = inl (fault.0, fault.1, refused_file_later call file.now fault.2)
-  merge_fault_later merge (database.Files call file) (inr fault) = inr (fault.0, fault.1, refused_file_later call file.now fault.2)
+  merge_fault_later merge (database.Files call file) (inr fault) = inr (fault.0, fault.1, refused_file_later call file.now fault.2, fault.3)
   merge_fault_later merge database.Print fault = absurd fault
   merge_fault_later merge database.Memory fault = tt
   merge_fault_later merge (database.NoDatabase file kind line) fault = fault
@@ -289,15 +289,15 @@ module _ (before middle after : Outside) (first : CountsUp before middle) (secon
 
   report_fault_later : (report : ReportValues) (f : CommandFault) → IsReportFault report before middle f → IsReportFault report before after f
   report_fault_later report (database.Files call file) (inl fault) = inl (fault.0, fault.1, refused_file_later call file.now fault.2)
-  report_fault_later report (database.Files call file) (inr fault) = inr (fault.0, fault.1, refused_file_later call file.now fault.2)
-  report_fault_later report database.Print fault = (fault.0, counted_later fault.1)
+  report_fault_later report (database.Files call file) (inr fault) = inr (fault.0, fault.1, refused_file_later call file.now fault.2, fault.3)
+  report_fault_later report database.Print fault = (fault.0, counted_later fault.1, fault.2)
   report_fault_later report database.Memory fault = tt
   report_fault_later report (database.NoDatabase file kind line) fault = fault
   report_fault_later report (database.DesignsDiffer file line one other) fault = absurd fault
 
   lcov_fault_later : (lcov : LcovValues) (f : CommandFault) → IsLcovFault lcov before middle f → IsLcovFault lcov before after f
   lcov_fault_later lcov (database.Files call file) (inl fault) = inl (fault.0, fault.1, refused_file_later call file.now fault.2)
-  lcov_fault_later lcov (database.Files call file) (inr fault) = inr (fault.0, fault.1, refused_file_later call file.now fault.2)
+  lcov_fault_later lcov (database.Files call file) (inr fault) = inr (fault.0, fault.1, refused_file_later call file.now fault.2, fault.3)
   lcov_fault_later lcov database.Print fault = absurd fault
   lcov_fault_later lcov database.Memory fault = tt
   lcov_fault_later lcov (database.NoDatabase file kind line) fault = fault
@@ -315,6 +315,6 @@ module _ (before middle after : Outside) (first : CountsUp before middle) (secon
   stands_later words (PointsFault p) stands = stands
   stands_later words (Dump refusal) stands = stands
   stands_later words (Contradiction found) stands = stands
-  stands_later words (FilesFault call file) stands = (stands.0, stands.1, (stands.2.0, refused_later call file.now stands.2.1, stands.2.2))
+  stands_later words (FilesFault call file) stands = (stands.0, stands.1, (stands.2.0, refused_later call file.now stands.2.1, stands.2.2, stands.2.3))
   stands_later words Memory stands = stands
   stands_later words (Databases f) stands = databases_stand_later words f stands

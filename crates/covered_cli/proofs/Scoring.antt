@@ -7,7 +7,7 @@ use Rattle.command_line.specs.declared.command.Command.{Command}
 use Rattle.cov_host.specs.Outside.{Outside, Files, IsCounted, KeepsFiles, SameFiles, Told, HasFile}
 use Rattle.covered_cli.specs.Covered.{KeepsOthers}
 use Rattle.covered_cli.specs.Fault.{IsDesignFault, IsDrawingFault, IsEarly, IsPointsFault, IsReadingFault, IsScoringFault, IsWritingFault, StandsIn}
-use Rattle.covered_cli.specs.Scoring.{HasDesign, HasDump, HasSomeDesign, IsContradictedText, IsDone, IsDoneIn, IsDoneWork, IsDumpRefusal, names_of}
+use Rattle.covered_cli.specs.Scoring.{HasDesign, HasDump, HasSomeDesign, HasSomeScore, IsContradictedText, IsDone, IsDoneIn, IsDoneWork, IsDumpRefusal, IsScoredText, names_of}
 use Rattle.covered_cli.specs.declared.fault.Fault.{Fault}
 use Rattle.covered_cli.specs.declared.fault.Fault.TheVariants.{Usage, Source, NoMachine, Points as PointsFault, Dump, Contradiction, Files as FilesFault, Memory, Databases}
 use Rattle.cover_points.specs.declared.listing.Points.{Points}
@@ -99,8 +99,8 @@ reading_stands score before middle after has kept first second (NoMachine name) 
 reading_stands score before middle after has kept first second (PointsFault p) is = absurd is
 reading_stands score before middle after has kept first second (Dump refusal) is = absurd is
 reading_stands score before middle after has kept first second (Contradiction found) is = absurd is
-reading_stands score before middle after has kept first second (FilesFault OpenRead file) is = (is.0, refused_earlier file.now before middle after kept first second is.1, has)
-reading_stands score before middle after has kept first second (FilesFault Read file) is = (is.0, IsCounted-earlier before.faults middle.faults after.faults first.faults second.faults is.1, has)
+reading_stands score before middle after has kept first second (FilesFault OpenRead file) is = (is.0, refused_earlier file.now before middle after kept first second is.1, has, tt)
+reading_stands score before middle after has kept first second (FilesFault Read file) is = (is.0, IsCounted-earlier before.faults middle.faults after.faults first.faults second.faults is.1, has, tt)
 reading_stands score before middle after has kept first second (FilesFault OpenWrite file) is = absurd is
 reading_stands score before middle after has kept first second (FilesFault Write file) is = absurd is
 reading_stands score before middle after has kept first second (FilesFault CloseWrite file) is = absurd is
@@ -138,14 +138,13 @@ written_since name text (Some before) None after same written = absurd same
 written_since name text (Some before) (Some middle) None same written = absurd written
 written_since name text (Some before) (Some middle) (Some after) same written = record { named = written.named; others = λ other apart. written.others other apart ∙ same other }
 
--- what was read, scored and written is what the command asks for
-pub score_is_done : (score : ScoreValues) (sources : List SourceText) (names : List (List ℕ)) (text : List ℕ) (design : Design) (db : Db) (before middle later after : Outside) (has : HasDesign score before sources design) → names ≡ names_of sources → KeepsFiles before middle → KeepsFiles before later
-    → IsScoreOfFile score.dump middle (habit_in score) design has.machines names score.instance db → text ≡ text_of db → Told (HasFile score.output text) later.files after.files → IsDoneIn score before after
-score_is_done score sources names text design db before middle later after has are_names kept same scored is_text written = record {
+-- what was read and scored is the text that the command asks for
+pub text_is_scored : (score : ScoreValues) (sources : List SourceText) (names : List (List ℕ)) (text : List ℕ) (design : Design) (db : Db) (before middle : Outside) (has : HasDesign score before sources design) → names ≡ names_of sources → KeepsFiles before middle
+    → IsScoreOfFile score.dump middle (habit_in score) design has.machines names score.instance db → text ≡ text_of db → IsScoredText score before text
+text_is_scored score sources names text design db before middle has are_names kept scored is_text = record {
   sources = sources;
   dump = scored.text;
   design = design;
-  text = text;
   has_design = has;
   dump_is = file_as_before score.dump scored.text before.files middle.files kept scored.is;
   scores = record {
@@ -162,8 +161,11 @@ score_is_done score sources names text design db before middle later after has a
     };
     is_text = is_text;
   };
-  written = written_since score.output text before.files later.files after.files same written;
 }
+
+-- where it was written, what the command asks for was done
+pub score_is_done : (score : ScoreValues) (text : List ℕ) (before later after : Outside) → IsScoredText score before text → KeepsFiles before later → Told (HasFile score.output text) later.files after.files → IsDoneIn score before after
+score_is_done score text before later after scored same written = record { text = text; scored = scored; written = written_since score.output text before.files later.files after.files same written }
 
 -- what the command asks for is what the words ask for
 pub command_is_done : (words : List (List ℕ)) (command : Command) (before after : Outside) → IsCommand words command → IsDoneWork command before after → IsDone words before after
@@ -177,8 +179,12 @@ pub IfErr-map : {T E : Type 0} {P Q : E → Type 0} (result : Result T E) → ((
 IfErr-map (Ok value) step holds = tt
 IfErr-map (Err fault) step holds = step fault holds
 
+-- what has a score has a design
+some_design : (score : ScoreValues) (before : Outside) → HasSomeScore score before → HasSomeDesign score before
+some_design score before has = (has.1.sources, has.1.design, has.1.has_design)
+
 -- a fault of writing stands
-pub writing_stands : (score : ScoreValues) (before later after : Outside) → HasSomeDesign score before → CountsUp before later → CountsUp later after → (fault : Fault) → IsWritingFault score.output later after fault → StandsIn score before after fault
+pub writing_stands : (score : ScoreValues) (before later after : Outside) → HasSomeScore score before → CountsUp before later → CountsUp later after → (fault : Fault) → IsWritingFault score.output later after fault → StandsIn score before after fault
 writing_stands score before later after has first second (Usage usage) is = absurd is
 writing_stands score before later after has first second (Source f) is = absurd is
 writing_stands score before later after has first second (NoMachine name) is = absurd is
@@ -187,9 +193,9 @@ writing_stands score before later after has first second (Dump refusal) is = abs
 writing_stands score before later after has first second (Contradiction found) is = absurd is
 writing_stands score before later after has first second (FilesFault OpenRead file) is = absurd is
 writing_stands score before later after has first second (FilesFault Read file) is = absurd is
-writing_stands score before later after has first second (FilesFault OpenWrite file) is = (is.0, IsCounted-earlier before.faults later.faults after.faults first.faults second.faults is.1, has)
-writing_stands score before later after has first second (FilesFault Write file) is = (is.0, IsCounted-earlier before.faults later.faults after.faults first.faults second.faults is.1, has)
-writing_stands score before later after has first second (FilesFault CloseWrite file) is = (is.0, IsCounted-earlier before.faults later.faults after.faults first.faults second.faults is.1, has)
+writing_stands score before later after has first second (FilesFault OpenWrite file) is = (is.0, IsCounted-earlier before.faults later.faults after.faults first.faults second.faults is.1, some_design score before has, has)
+writing_stands score before later after has first second (FilesFault Write file) is = (is.0, IsCounted-earlier before.faults later.faults after.faults first.faults second.faults is.1, some_design score before has, has)
+writing_stands score before later after has first second (FilesFault CloseWrite file) is = (is.0, IsCounted-earlier before.faults later.faults after.faults first.faults second.faults is.1, some_design score before has, has)
 writing_stands score before later after has first second Memory is = tt
 writing_stands score before later after has first second (Databases f) is = absurd is
 

@@ -29,7 +29,7 @@ use Rattle.covered_cli.specs.Databases.{database_line, database_status}
 use Rattle.covered_cli.specs.PointsMessage.{machine_line, points_line, points_status}
 use Rattle.covered_cli.specs.ScoreMachines.{habit_in}
 use Rattle.covered_cli.specs.ScoreSources.{sources_in}
-use Rattle.covered_cli.specs.Scoring.{HasNoMachine, HasPointsFault, HasSomeDesign, IsContradictedDump, IsContradictedText, IsDumpRefusal, IsRefusedDump}
+use Rattle.covered_cli.specs.Scoring.{HasNoMachine, HasPointsFault, HasSomeDesign, HasSomeScore, IsContradictedDump, IsContradictedText, IsDumpRefusal, IsRefusedDump}
 use Rattle.covered_cli.specs.SourceMessage.{source_line, source_status}
 use Rattle.covered_cli.specs.DumpRefusal.{refusal_line}
 use Rattle.source_design.specs.Reading.{IsSourceFault}
@@ -73,8 +73,14 @@ abbrev pub IsRefused : Call → List ℕ → Outside → Outside → Type 0
 IsRefused OpenRead file before after = IsCounted before.faults after.faults ⊎ IsMissing file before after
 IsRefused call file before after = IsCounted before.faults after.faults
 
+-- before a call on the output the dump has a score
+abbrev pub IsScoredBefore : Call → ScoreValues → Outside → Type 0
+IsScoredBefore OpenRead score before = Unit {0}
+IsScoredBefore Read score before = Unit {0}
+IsScoredBefore call score before = HasSomeScore score before
+
 -- this command has the fault between two outsides; one of the dump or of the output only where the sources
--- have a design, whose points are listed
+-- have a design, whose points are listed, and one of the output only where the dump has a score
 abbrev pub StandsIn : ScoreValues → Outside → Outside → Fault → Type 0
 StandsIn score before after (fault.Usage usage) = ⊥
 StandsIn score before after (fault.Source f) = IsSourceFault (sources_in score) before after f
@@ -82,7 +88,7 @@ StandsIn score before after (fault.NoMachine name) = HasNoMachine score before n
 StandsIn score before after (fault.Points f) = HasPointsFault score before f
 StandsIn score before after (fault.Dump refusal) = IsRefusedDump score before refusal
 StandsIn score before after (fault.Contradiction x) = IsContradictedDump score before x
-StandsIn score before after (fault.Files call file) = NamesFile score call file.now × IsRefused call file.now before after × HasSomeDesign score before
+StandsIn score before after (fault.Files call file) = NamesFile score call file.now × IsRefused call file.now before after × HasSomeDesign score before × IsScoredBefore call score before
 StandsIn score before after fault.Memory = Unit {0}
 StandsIn score before after (fault.Databases f) = ⊥
 

@@ -137,15 +137,23 @@ IsRefusedDump score before refusal = HasDump score before (λ design text. IsDum
 abbrev pub IsContradictedDump : ScoreValues → Outside → Contradiction → Type 0
 IsContradictedDump score before x = HasDump score before (λ design text. IsContradictedText (habit_in score) design score.instance text x)
 
--- the output holds the table of the design of the sources under the dump, and every other file is as before
-pub record IsDoneIn (score : ScoreValues) (before after : Outside) : Type 0 where
+-- the text is that of the table of the design of the sources under the dump
+pub record IsScoredText (score : ScoreValues) (before : Outside) (text : List ℕ) : Type 0 where
   pub sources : List SourceText
   pub dump : List ℕ
   pub design : Design
-  pub text : List ℕ
   pub has_design : HasDesign score before sources design
   pub dump_is : IsFile before score.dump dump
   pub scores : IsScoreText (habit_in score) design has_design.machines (names_of sources) dump score.instance text
+
+-- the sources have a design, and the dump a score of it
+abbrev pub HasSomeScore : ScoreValues → Outside → Type 0
+HasSomeScore score before = (text : List ℕ) × IsScoredText score before text
+
+-- the output holds the table of the design of the sources under the dump, and every other file is as before
+pub record IsDoneIn (score : ScoreValues) (before after : Outside) : Type 0 where
+  pub text : List ℕ
+  pub scored : IsScoredText score before text
   pub written : Told (HasFile score.output text) before.files after.files
 
 -- what a command with these values asks for was done

@@ -5,7 +5,7 @@ use Rattle.design_model.specs.View.{design_view}
 use Rattle.design_points.specs.Counted.{AreAllPoints}
 use Rattle.whole_files.proofs.EffectLemmas.{CountsUp-trans, KeepsFiles-trans}
 use Rattle.covered_cli.proofs.Designs.{lawful_design, replayable_design, rooted_design, written_design}
-use Rattle.covered_cli.proofs.Scoring.{IfErr-map, OnOk-map, design_stands, drawing_stands, has_listed, others_kept, others_kept_since, points_stand, score_is_done, scoring_stands, writing_is_late, writing_stands}
+use Rattle.covered_cli.proofs.Scoring.{IfErr-map, OnOk-map, design_stands, drawing_stands, has_listed, others_kept, others_kept_since, points_stand, score_is_done, scoring_stands, text_is_scored, writing_is_late, writing_stands}
 use Rattle.covered_cli.proofs.Machines.{drawable, machines_are, written_machines}
 use Rattle.covered_cli.proofs.SourceNames.{AreGoodNames, good_names}
 use Rattle.covered_cli.specs.ScoreSources.{sources_in}
@@ -106,8 +106,10 @@ returns-clause-done g c =
     let read = c.in_ok-design.ensures.read in
     let effects = c.in_ok-design.ensures.effects in
     let db = c.in_ok-db.ensures in
-    let kept = KeepsFiles-trans before middle later effects.files db.effects.files in
-    OnOk-map c.write.result (score_is_done score read.sources _ _ _ _ before middle later after (has_listed score before read.sources _ _ _ (machines_are score _ _ _ c.in_ok-states.ensures.named c.in_ok-states.ensures.drawn c.draw_machines.ensures.named c.in_ok-draw_machines.ensures.drawn c.in_ok-draw_machines.ensures.placed) read.gathered read.stands c.in_ok-points.ensures.points) read.names effects.files kept (db.scored _ c.in_ok-points.ensures.points) c.in_ok-text.ensures.text) c.write.ensures.written
+    let machines = machines_are score _ _ _ c.in_ok-states.ensures.named c.in_ok-states.ensures.drawn c.draw_machines.ensures.named c.in_ok-draw_machines.ensures.drawn c.in_ok-draw_machines.ensures.placed in
+    let has = has_listed score before read.sources _ _ _ machines read.gathered read.stands c.in_ok-points.ensures.points in
+    let scored = text_is_scored score read.sources _ _ _ _ before middle has read.names effects.files (db.scored _ c.in_ok-points.ensures.points) c.in_ok-text.ensures.text in
+    OnOk-map c.write.result (score_is_done score _ before later after scored (KeepsFiles-trans before middle later effects.files db.effects.files)) c.write.ensures.written
 
 pub returns-in_err-text-clause-others : goal.returns-in_err-text-clause-others
 returns-in_err-text-clause-others g c =
@@ -131,9 +133,14 @@ returns-clause-fault g c =
     let middle = g.H.Host.outside c.design_of.new.host in
     let later = g.H.Host.outside c.db_of.new.host in
     let after = g.H.Host.outside c.write.new.host in
-    let counts = CountsUp-trans before middle later c.in_ok-design.ensures.effects.counts c.in_ok-db.ensures.effects.counts in
     let read = c.in_ok-design.ensures.read in
-    IfErr-map c.write.result (writing_stands score before later after (read.sources, _, has_listed score before read.sources _ _ _ (machines_are score _ _ _ c.in_ok-states.ensures.named c.in_ok-states.ensures.drawn c.draw_machines.ensures.named c.in_ok-draw_machines.ensures.drawn c.in_ok-draw_machines.ensures.placed) read.gathered read.stands c.in_ok-points.ensures.points) counts c.write.ensures.counts) c.write.ensures.fault
+    let effects = c.in_ok-design.ensures.effects in
+    let db = c.in_ok-db.ensures in
+    let counts = CountsUp-trans before middle later effects.counts db.effects.counts in
+    let machines = machines_are score _ _ _ c.in_ok-states.ensures.named c.in_ok-states.ensures.drawn c.draw_machines.ensures.named c.in_ok-draw_machines.ensures.drawn c.in_ok-draw_machines.ensures.placed in
+    let has = has_listed score before read.sources _ _ _ machines read.gathered read.stands c.in_ok-points.ensures.points in
+    let scored = text_is_scored score read.sources _ _ _ _ before middle has read.names effects.files (db.scored _ c.in_ok-points.ensures.points) c.in_ok-text.ensures.text in
+    IfErr-map c.write.result (writing_stands score before later after (c.in_ok-text.text, scored) counts c.write.ensures.counts) c.write.ensures.fault
 
 pub returns-clause-early : goal.returns-clause-early
 returns-clause-early g c =
