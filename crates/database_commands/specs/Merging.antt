@@ -1,5 +1,5 @@
 -- What a `merge` command writes.
-use Rattle.std.specs.Prelude.{◌≡◌, List, [], ◌∷◌, All}
+use Rattle.std.specs.Prelude.{◌≡◌, ℕ, List, [], ◌∷◌, All}
 use Rattle.cov_host.specs.Outside.{HasFile, Outside, Told}
 use Rattle.coverage_db.specs.Merge.{SameDesign, merged_all}
 use Rattle.coverage_db.specs.Text.{text_of}
@@ -15,6 +15,10 @@ pub record IsMergeOf (merge : MergeValues) (before : Outside) (table : Db) : Typ
   pub others_hold : HoldTables before merge.others others
   pub of_one : All (SameDesign first) others
   pub is : table ≡ merged_all first others
+
+-- the text is that of the merge of the files
+abbrev pub IsMergedText : MergeValues → Outside → List ℕ → Type 0
+IsMergedText merge before text = (table : Db) × IsMergeOf merge before table × (text ≡ text_of table)
 
 -- the output holds the text of the merge of the files, and every other file is as before
 pub record IsMergedIn (merge : MergeValues) (before after : Outside) : Type 0 where

@@ -1,6 +1,6 @@
 -- What a `report` command writes or prints.
 use Rattle.std.specs.Prelude.{◌≡◌, ◌⊎◌, ℕ, List, Option, Some, None}
-use Rattle.cov_host.specs.Outside.{Appends, Files as HostFiles, HasFile, IsCounted, Outside, SameFiles, Told}
+use Rattle.cov_host.specs.Outside.{Appends, AppendsPrefix, Files as HostFiles, HasFile, IsCounted, KeepsFiles, Outside, SameFiles, Told}
 use Rattle.cov_report.specs.Report.{report_text}
 use Rattle.cov_report.specs.declared.options.Letters.{Letters}
 use Rattle.cov_report.specs.declared.options.Level.{Level}
@@ -11,6 +11,7 @@ use Rattle.command_line.specs.DatabaseWords.{ReportValues}
 use Rattle.command_line.specs.declared.report_level.ReportLevel.{ReportLevel}
 use Rattle.command_line.specs.declared.report_level.ReportLevel.TheVariants.{Summary, Detailed, Verbose}
 use Rattle.command_line.specs.declared.report_metrics.ReportMetrics.{ReportMetrics}
+use Rattle.whole_files.specs.Effects.{HoldsFront}
 use Rattle.whole_files.specs.declared.call.Call.{Call}
 use Rattle.database_commands.specs.Faults.{IsNoTable, IsReading, IsRefused, IsWriting}
 use Rattle.database_commands.specs.Files.{HoldsSome, HoldsTable, KeepsOthers}
@@ -34,6 +35,19 @@ abbrev pub GivesText : Option (List ℕ) → List ℕ → Outside → Outside �
 GivesText None text before after = Told (Appends text) before.printed after.printed
 GivesText (Some name) text before after = Told (HasFile name text) before.files after.files
 
+-- the file has a front of the text, and every other file is as before; or a front of it was printed, where no file is named
+abbrev pub GivesFront : Option (List ℕ) → List ℕ → Outside → Outside → Type 0
+GivesFront None text before after = Told (AppendsPrefix text) before.printed after.printed
+GivesFront (Some name) text before after = Told (HoldsFront name text) before.files after.files
+
+-- every file is as before, and nothing was printed
+abbrev pub LeavesAll : Outside → Outside → Type 0
+LeavesAll before after = KeepsFiles before after × (after.printed ≡ before.printed)
+
+-- what a command leaves that did not give its text: all as before; or a front of its text, which is made before the output is opened
+abbrev pub LeavesFront : (List ℕ → Type 0) → Option (List ℕ) → Outside → Outside → Type 0
+LeavesFront IsText output before after = LeavesAll before after ⊎ ((text : List ℕ) × IsText text × GivesFront output text before after)
+
 -- every file but the one that is named is as before
 abbrev pub KeepsUnlessNamed : Option (List ℕ) → HostFiles → HostFiles → Type 0
 KeepsUnlessNamed None old new = SameFiles old new
@@ -43,6 +57,10 @@ KeepsUnlessNamed (Some name) old new = KeepsOthers name old new
 abbrev pub PrintsIfUnnamed : Option (List ℕ) → Outside → Outside → Type 0
 PrintsIfUnnamed None before after = Unit {0}
 PrintsIfUnnamed (Some name) before after = after.printed ≡ before.printed
+
+-- the text is the report of the table that the file holds
+abbrev pub IsReportedText : ReportValues → Outside → List ℕ → Type 0
+IsReportedText report before text = (table : Db) × HoldsTable before report.file table × (text ≡ report_text table (options_of report))
 
 -- the file holds a table, and its report was written or printed
 pub record IsReportedIn (report : ReportValues) (before after : Outside) : Type 0 where

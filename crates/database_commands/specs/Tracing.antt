@@ -11,6 +11,10 @@ use Rattle.database_commands.specs.Files.{HoldsSome, HoldsTable}
 use Rattle.database_commands.specs.declared.fault.CommandFault.{CommandFault}
 use Rattle.database_commands.specs.declared.fault.CommandFault.TheVariants.{Files, Print, Memory, NoDatabase, DesignsDiffer}
 
+-- the text is the tracefile of the table that the file holds
+abbrev pub IsTracedText : LcovValues → Outside → List ℕ → Type 0
+IsTracedText lcov before text = (table : Db) × HoldsTable before lcov.file table × (text ≡ tracefile_text table)
+
 -- the file holds a table, the output holds its tracefile, and every other file is as before
 pub record IsTracedIn (lcov : LcovValues) (before after : Outside) : Type 0 where
   pub table : Db

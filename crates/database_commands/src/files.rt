@@ -1,6 +1,6 @@
-ghost use Rattle.std.specs.Prelude.{◌≡◌, IfErr, IfOk, OnOk};
-ghost use Rattle.cov_host.specs.Outside.{Appends, HasFile, KeepsFiles, Told};
-ghost use Rattle.whole_files.specs.Effects.{CountsUp, OnlyReads};
+ghost use Rattle.std.specs.Prelude.{◌≡◌, IfErr, IfOk, OnErr, OnOk};
+ghost use Rattle.cov_host.specs.Outside.{Appends, AppendsPrefix, HasFile, KeepsFiles, Told};
+ghost use Rattle.whole_files.specs.Effects.{CountsUp, HoldsFront, OnlyReads};
 ghost use Rattle.database_commands.specs.Faults.{IsPrintFault, IsTableFault, IsWriteFault};
 ghost use Rattle.database_commands.specs.Files.{HoldsTable, KeepsOthers};
 
@@ -42,13 +42,14 @@ pub(crate) fn read_table<'a, H: Host>(
     }
 }
 
-/// Writes a file whole.
+/// Writes a file whole. After a refusal the file is as before or holds a front of the text.
 pub(crate) fn write<'a, H: Host>(
     host: &mut H,
     file: &'a str,
     text: &Text,
 ) -> Result<(), CommandFault<'a>>
     ensures written { OnOk result (Told (HasFile file.now text.now) (H.outside host.old).files (H.outside host.new).files) }
+    ensures front { OnErr result (Told (HoldsFront file.now text.now) (H.outside host.old).files (H.outside host.new).files) }
     ensures fault { IfErr result (IsWriteFault file.now (H.outside host.old) (H.outside host.new)) }
     ensures others { Told (KeepsOthers file.now) (H.outside host.old).files (H.outside host.new).files }
     ensures printed { (H.outside host.new).printed ≡ (H.outside host.old).printed }
@@ -62,9 +63,10 @@ pub(crate) fn write<'a, H: Host>(
     }
 }
 
-/// Prints a text.
+/// Prints a text. After a refusal a front of it was printed.
 pub(crate) fn print<'a, H: Host>(host: &mut H, text: &Text) -> Result<(), CommandFault<'a>>
     ensures printed { OnOk result (Told (Appends text.now) (H.outside host.old).printed (H.outside host.new).printed) }
+    ensures front { OnErr result (Told (AppendsPrefix text.now) (H.outside host.old).printed (H.outside host.new).printed) }
     ensures fault { IfErr result (IsPrintFault (H.outside host.old) (H.outside host.new)) }
     ensures files { KeepsFiles (H.outside host.old) (H.outside host.new) }
     ensures warned { (H.outside host.new).warned ≡ (H.outside host.old).warned }

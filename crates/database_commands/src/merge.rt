@@ -1,4 +1,4 @@
-ghost use Rattle.std.specs.Prelude.{◌≡◌, IfErr, IfOk, OnOk};
+ghost use Rattle.std.specs.Prelude.{◌≡◌, IfErr, IfOk, OnErr, OnOk, Some};
 ghost use Rattle.command_line.specs.DatabaseWords.{merge_values};
 ghost use Rattle.cov_host.specs.Outside.{KeepsFiles, KeepsStreams, Told};
 ghost use Rattle.coverage_db.specs.Merge.{SameDesign, merged};
@@ -7,7 +7,8 @@ ghost use Rattle.whole_files.specs.Effects.{CountsUp, OnlyReads};
 ghost use Rattle.database_commands.specs.Complete.{IsGoodMerge, NoFaults};
 ghost use Rattle.database_commands.specs.Faults.{IsEarly, IsJoinFault, IsMergeFault};
 ghost use Rattle.database_commands.specs.Files.{KeepsOthers};
-ghost use Rattle.database_commands.specs.Merging.{IsMergeOf, IsMergedIn};
+ghost use Rattle.database_commands.specs.Merging.{IsMergeOf, IsMergedIn, IsMergedText};
+ghost use Rattle.database_commands.specs.Reporting.{LeavesFront};
 
 use crate::CommandFault;
 use crate::files::{read_table, write};
@@ -17,7 +18,7 @@ use coverage_db::{Db, MergeFault, merge, write_db};
 use std::alloc::Global;
 
 /// Joins the databases of a `merge` command and writes the database of all. The files are read in the order of the
-/// words, each to its end, and the first fault ends the work. The output is opened when all is read.
+/// words, each to its end, and the first fault ends the work. The output is opened when all is read and the text is made.
 pub fn run_merge<'a, H: Host>(
     alloc: Global,
     words: &MergeWords<'a>,
@@ -27,6 +28,7 @@ pub fn run_merge<'a, H: Host>(
     ensures fault { IfErr result (IsMergeFault (merge_values words.now) (H.outside host.old) (H.outside host.new)) }
     ensures complete { IfErr result (λ fault. IsGoodMerge (merge_values words.now) (H.outside host.old) → NoFaults (H.outside host.old) (H.outside host.new) → fault ≡ CommandFault.Memory) }
     ensures early { IfErr result (λ fault. IsEarly fault → KeepsFiles (H.outside host.old) (H.outside host.new)) }
+    ensures left { OnErr result (LeavesFront (IsMergedText (merge_values words.now) (H.outside host.old)) (Some words.now.output.now) (H.outside host.old) (H.outside host.new)) }
     ensures others { Told (KeepsOthers words.now.output.now) (H.outside host.old).files (H.outside host.new).files }
     ensures streams { KeepsStreams (H.outside host.old) (H.outside host.new) }
     ensures counts { CountsUp (H.outside host.old) (H.outside host.new) }

@@ -1,10 +1,10 @@
-ghost use Rattle.std.specs.Prelude.{◌≡◌, IfErr, OnOk, option_copied};
+ghost use Rattle.std.specs.Prelude.{◌≡◌, IfErr, OnErr, OnOk, option_copied};
 ghost use Rattle.command_line.specs.DatabaseWords.{report_values};
 ghost use Rattle.cov_host.specs.Outside.{KeepsFiles, Told};
 ghost use Rattle.whole_files.specs.Effects.{CountsUp};
 ghost use Rattle.database_commands.specs.Complete.{IsGoodReport, NoFaults};
 ghost use Rattle.database_commands.specs.Faults.{IsEarly};
-ghost use Rattle.database_commands.specs.Reporting.{GivesText, IsGiveFault, IsReportFault, IsReportedIn, KeepsUnlessNamed, PrintsIfUnnamed, options_of};
+ghost use Rattle.database_commands.specs.Reporting.{GivesFront, GivesText, IsGiveFault, IsReportFault, IsReportedIn, IsReportedText, KeepsUnlessNamed, LeavesFront, PrintsIfUnnamed, options_of};
 
 use crate::CommandFault;
 use crate::files::{print, read_table, write};
@@ -24,6 +24,7 @@ pub fn run_report<'a, H: Host>(
     ensures fault { IfErr result (IsReportFault (report_values words.now) (H.outside host.old) (H.outside host.new)) }
     ensures complete { IfErr result (λ fault. IsGoodReport (report_values words.now) (H.outside host.old) → NoFaults (H.outside host.old) (H.outside host.new) → fault ≡ CommandFault.Memory) }
     ensures early { IfErr result (λ fault. IsEarly fault → KeepsFiles (H.outside host.old) (H.outside host.new)) }
+    ensures left { OnErr result (LeavesFront (IsReportedText (report_values words.now) (H.outside host.old)) (option_copied words.now.output) (H.outside host.old) (H.outside host.new)) }
     ensures unprinted { IfErr result (λ fault. IsEarly fault → (H.outside host.new).printed ≡ (H.outside host.old).printed) }
     ensures others { Told (KeepsUnlessNamed (option_copied words.now.output)) (H.outside host.old).files (H.outside host.new).files }
     ensures printed { PrintsIfUnnamed (option_copied words.now.output) (H.outside host.old) (H.outside host.new) }
@@ -66,6 +67,7 @@ fn give<'a, H: Host>(
     text: &Text,
 ) -> Result<(), CommandFault<'a>>
     ensures gives { OnOk result (GivesText (option_copied output.entry) text.now (H.outside host.old) (H.outside host.new)) }
+    ensures front { OnErr result (GivesFront (option_copied output.entry) text.now (H.outside host.old) (H.outside host.new)) }
     ensures fault { IfErr result (IsGiveFault (option_copied output.entry) (H.outside host.old) (H.outside host.new)) }
     ensures others { Told (KeepsUnlessNamed (option_copied output.entry)) (H.outside host.old).files (H.outside host.new).files }
     ensures printed { PrintsIfUnnamed (option_copied output.entry) (H.outside host.old) (H.outside host.new) }

@@ -1,10 +1,10 @@
 use Rattle.std.proofs.Common.{◌∙◌, ap, subst}
-use Rattle.std.proofs.lemmas.Result.{IfErr-weaker, err_from_is_err_and, on_ok_weaker}
+use Rattle.std.proofs.lemmas.Result.{IfErr-weaker, err_from_is_err_and, on_err_weaker, on_ok_weaker}
 use Rattle.cov_report.specs.Report.{report_text}
-use Rattle.database_commands.specs.Reporting.{GivesText, options_of}
+use Rattle.database_commands.specs.Reporting.{GivesText, IsReportedText, options_of}
 use Rattle.command_line.specs.DatabaseWords.{report_values}
 use Rattle.database_commands.proofs.Complete.{good_report}
-use Rattle.database_commands.proofs.Reporting.{gives_since, report_give_fault, report_table_fault}
+use Rattle.database_commands.proofs.Reporting.{OnErr-intro, gives_since, leaves_all, leaves_front, report_give_fault, report_table_fault}
 use Rattle.database_commands.proofs.report.run_report.Goals as goal
 
 pub returns-in_err-table-clause-fault : goal.returns-in_err-table-clause-fault
@@ -44,3 +44,34 @@ returns-in-Ok-clause-fault g c =
     let now = g.H.Host.outside c.read_table.new.host in
     let after = g.H.Host.outside c.give.new.host in
     IfErr-weaker c.give.result _ _ (report_give_fault report before now after (c.in_ok-table.table, c.in_ok-table.ensures.table) c.read_table.ensures.effects c.give.ensures.counts) c.give.ensures.fault
+
+pub returns-in_err-table-clause-left : goal.returns-in_err-table-clause-left
+returns-in_err-table-clause-left g c =
+    let report = report_values c.args.words.now in
+    let before = g.H.Host.outside c.args.host.now in
+    let after = g.H.Host.outside c.read_table.new.host in
+    OnErr-intro c.from_residual.result (leaves_all before after (IsReportedText report before) report.output c.read_table.ensures.effects)
+
+pub returns-in-Err-clause-left : goal.returns-in-Err-clause-left
+returns-in-Err-clause-left g c =
+    let report = report_values c.args.words.now in
+    let before = g.H.Host.outside c.args.host.now in
+    let after = g.H.Host.outside c.read_table.new.host in
+    leaves_all before after (IsReportedText report before) report.output c.read_table.ensures.effects
+
+pub returns-in-Ok-clause-left : goal.returns-in-Ok-clause-left
+returns-in-Ok-clause-left g c =
+    let report = report_values c.args.words.now in
+    let before = g.H.Host.outside c.args.host.now in
+    let now = g.H.Host.outside c.read_table.new.host in
+    let after = g.H.Host.outside c.give.new.host in
+    let text_is = c.in-Ok.ensures ∙ ap (report_text c.in_ok-table.table) c.options_of.ensures in
+    on_err_weaker c.give.result (leaves_front before now after (IsReportedText report before) report.output c.in-Ok.text (c.in_ok-table.table, c.in_ok-table.ensures.table, text_is) c.read_table.ensures.effects) c.give.ensures.front
+
+pub returns-in-Ok-clause-complete : goal.returns-in-Ok-clause-complete
+returns-in-Ok-clause-complete g c =
+    let report = report_values c.args.words.now in
+    let before = g.H.Host.outside c.args.host.now in
+    let now = g.H.Host.outside c.read_table.new.host in
+    let after = g.H.Host.outside c.give.new.host in
+    IfErr-weaker c.give.result _ _ (λ fault is good none. good_report report before after good none fault (report_give_fault report before now after (c.in_ok-table.table, c.in_ok-table.ensures.table) c.read_table.ensures.effects c.give.ensures.counts fault is)) c.give.ensures.fault
