@@ -94,7 +94,7 @@ pub is_some_command : (words : List (List ℕ)) (command : Command) → IsComman
 is_some_command words command is = (command_values command, is)
 
 -- a command writes the file that its values name
-same_output : (command : Command) → output_in (command_values command) ≡ output_of command
+pub same_output : (command : Command) → output_in (command_values command) ≡ output_of command
 same_output (Score values) = refl
 same_output (Merge values) = refl
 same_output (Report values) = refl

@@ -9,5 +9,6 @@ pub mod Digits
 pub mod Machines
 pub mod Drawings
 pub mod Scoring
+pub mod Leaving
 pub mod Refusing
 pub mod WordLists

@@ -10,12 +10,13 @@ use Rattle.cov_host.specs.Outside.{Outside, Files, IsCounted}
 use Rattle.coverage_db.specs.declared.fault.DbKind.{DbKind}
 use Rattle.database_commands.specs.Complete.{IsGoodMerge, IsGoodReport}
 use Rattle.database_commands.specs.Faults.{IsNoTable, IsOtherDesign, inputs_of}
+use Rattle.database_commands.specs.Reporting.{LeavesAll, LeavesFront}
 use Rattle.database_commands.specs.Tracing.{IsGoodLcov}
 use Rattle.source_design.specs.Reading.{LacksAt}
 use Rattle.covered_cli.specs.Effects.{WarnsLine}
-use Rattle.covered_cli.specs.Fault.{Stands, line_of, status_of}
+use Rattle.covered_cli.specs.Fault.{IsEarly, Stands, line_of, status_of}
 use Rattle.covered_cli.specs.ScoreSources.{sources_in}
-use Rattle.covered_cli.specs.Scoring.{IsContradictedDump}
+use Rattle.covered_cli.specs.Scoring.{IsContradictedDump, IsTextOf}
 use Rattle.covered_cli.specs.declared.contradiction.Contradiction.{Contradiction}
 use Rattle.covered_cli.specs.declared.fault.Fault.{Fault}
 use Rattle.covered_cli.specs.declared.status.Status.{Status}
@@ -111,6 +112,11 @@ HasGoodDatabases words before =
     ⊎ ((values : ReportValues) × IsReport words values × IsGoodReport values before)
     ⊎ ((values : LcovValues) × IsLcov words values × IsGoodLcov values before)
 
--- there is a fault of this status, and its line was warned
+-- all files, and what was printed, are as before; or the output, or what was printed, has a front of the text that the words ask for
+abbrev pub Leaves : List (List ℕ) → Outside → Outside → Type 0
+Leaves words before after = LeavesAll before after ⊎ ((values : CommandValues) × AreWordsOf values words × LeavesFront (IsTextOf values before) (output_in values) before after)
+
+-- there is a fault of this status, which leaves all as before if it comes before the output is opened, and its line was warned
 abbrev pub WarnsFault : List (List ℕ) → Status → Outside → Outside → Type 0
-WarnsFault words status before after = (fault : Fault) × (status_of fault ≡ status) × Stands words before after fault × WarnsLine (line_of fault) before after
+WarnsFault words status before after =
+    (fault : Fault) × (status_of fault ≡ status) × Stands words before after fault × (IsEarly fault → LeavesAll before after) × WarnsLine (line_of fault) before after

@@ -8,9 +8,9 @@ use Rattle.cov_host.specs.Outside.{Outside, HasFile, Told}
 use Rattle.coverage_db.specs.Table.{IsTable}
 use Rattle.coverage_db.specs.Text.{text_of}
 use Rattle.coverage_db.specs.declared.db.Db.{Db}
-use Rattle.database_commands.specs.Merging.{IsMergedIn}
-use Rattle.database_commands.specs.Reporting.{IsReportedIn}
-use Rattle.database_commands.specs.Tracing.{IsTracedIn}
+use Rattle.database_commands.specs.Merging.{IsMergedIn, IsMergedText}
+use Rattle.database_commands.specs.Reporting.{IsReportedIn, IsReportedText}
+use Rattle.database_commands.specs.Tracing.{IsTracedIn, IsTracedText}
 use Rattle.design_model.specs.Design.{path_of}
 use Rattle.design_model.specs.View.{design_view}
 use Rattle.design_model.specs.declared.design.Design.{Design}
@@ -162,6 +162,13 @@ IsDoneBy (of_score values) before after = IsDoneIn values before after
 IsDoneBy (of_merge values) before after = IsMergedIn values before after
 IsDoneBy (of_report values) before after = IsReportedIn values before after
 IsDoneBy (of_lcov values) before after = IsTracedIn values before after
+
+-- the text is the one that a command with these values asks for
+abbrev pub IsTextOf : CommandValues → Outside → List ℕ → Type 0
+IsTextOf (of_score values) before text = IsScoredText values before text
+IsTextOf (of_merge values) before text = IsMergedText values before text
+IsTextOf (of_report values) before text = IsReportedText values before text
+IsTextOf (of_lcov values) before text = IsTracedText values before text
 
 -- what the command asks for was done
 abbrev pub IsDoneWork : Command → Outside → Outside → Type 0

@@ -1,4 +1,4 @@
-ghost use Rattle.std.specs.Prelude.{◌≡◌, ◌<◌, All, IfErr, IfOk, List, OnOk, length};
+ghost use Rattle.std.specs.Prelude.{◌≡◌, ◌<◌, All, IfErr, IfOk, List, OnErr, OnOk, Some, length};
 ghost use Rattle.command_line.specs.CommandWords.{HaveForms, score_values};
 ghost use Rattle.cov_host.specs.Outside.{HasFile, KeepsFiles, KeepsStreams, Outside, Told};
 ghost use Rattle.coverage_db.specs.Table.{IsTable};
@@ -15,13 +15,14 @@ ghost use Rattle.source_design.specs.Reading.{IsReadIn};
 ghost use Rattle.written_designs.specs.table_laws.Written.{IsWritten, IsWrittenMachine};
 ghost use Rattle.state_machines.specs.Drawn.{AreDrawable};
 ghost use Rattle.state_machines.specs.Machines.{StateMachines};
-ghost use Rattle.whole_files.specs.Effects.{CountsUp, OnlyReads};
+ghost use Rattle.database_commands.specs.Reporting.{LeavesFront};
+ghost use Rattle.whole_files.specs.Effects.{CountsUp, HoldsFront, OnlyReads};
 ghost use Rattle.covered_cli.specs.Covered.{KeepsOthers};
 ghost use Rattle.covered_cli.specs.Fault.{IsDesignFault, IsPointsFault, StandsIn, IsEarly, IsWritingFault, IsScoringFault};
 ghost use Rattle.covered_cli.specs.Refusing.{IsBindRefusal, IsReplayRefusal, NamesSignal};
 ghost use Rattle.covered_cli.specs.ScoreMachines.{habit_when};
 ghost use Rattle.covered_cli.specs.ScoreSources.{sources_in};
-ghost use Rattle.covered_cli.specs.Scoring.{IsDoneIn};
+ghost use Rattle.covered_cli.specs.Scoring.{IsDoneIn, IsScoredText};
 ghost use Rattle.covered_cli.specs.declared.fault.Fault.TheVariants as fault_row;
 
 use crate::contradiction::Contradiction;
@@ -53,6 +54,7 @@ pub(crate) fn run_score<'a, H: Host>(
     ensures done { OnOk result (IsDoneIn (score_values words.now) (H.outside host.old) (H.outside host.new)) }
     ensures fault { IfErr result (StandsIn (score_values words.now) (H.outside host.old) (H.outside host.new)) }
     ensures early { IfErr result (λ fault. IsEarly fault → KeepsFiles (H.outside host.old) (H.outside host.new)) }
+    ensures left { OnErr result (LeavesFront (IsScoredText (score_values words.now) (H.outside host.old)) (Some words.now.output.now) (H.outside host.old) (H.outside host.new)) }
     ensures others { Told (KeepsOthers words.now.output.now) (H.outside host.old).files (H.outside host.new).files }
     ensures streams { KeepsStreams (H.outside host.old) (H.outside host.new) }
     ensures counts { CountsUp (H.outside host.old) (H.outside host.new) }
@@ -103,9 +105,10 @@ fn points_of<'a>(alloc: Global, design: &Design, states: &States) -> Result<Box<
     }
 }
 
-/// Writes a file whole.
+/// Writes a file whole. After a refusal the file is as before or holds a front of the text.
 fn write<'a, H: Host>(host: &mut H, name: &'a str, text: &Text) -> Result<(), Fault<'a>>
     ensures written { OnOk result (Told (HasFile name.now text.now) (H.outside host.old).files (H.outside host.new).files) }
+    ensures front { OnErr result (Told (HoldsFront name.now text.now) (H.outside host.old).files (H.outside host.new).files) }
     ensures fault { IfErr result (IsWritingFault name.now (H.outside host.old) (H.outside host.new)) }
     ensures others { Told (KeepsOthers name.now) (H.outside host.old).files (H.outside host.new).files }
     ensures streams { KeepsStreams (H.outside host.old) (H.outside host.new) }

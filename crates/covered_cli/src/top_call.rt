@@ -1,11 +1,12 @@
-ghost use Rattle.std.specs.Prelude.{◌≡◌, ◌≢◌, ◌↔◌, IfErr, OnOk};
+ghost use Rattle.std.specs.Prelude.{◌≡◌, ◌≢◌, ◌↔◌, IfErr, OnErr, OnOk};
+ghost use Rattle.command_line.specs.Command.{command_values};
 ghost use Rattle.cov_host.specs.Outside.{KeepsFiles, Told};
-ghost use Rattle.database_commands.specs.Reporting.{KeepsUnlessNamed, PrintsIfUnnamed};
+ghost use Rattle.database_commands.specs.Reporting.{KeepsUnlessNamed, LeavesFront, PrintsIfUnnamed};
 ghost use Rattle.whole_files.specs.Effects.{CountsUp};
 ghost use Rattle.covered_cli.specs.Complete.{EndsWith, HasBadDump, HasBadSource, HasUnboundDump, IsCommandWith, IsGoodScore, LacksPoints, NoFaults, RefusesBinding, RefusesDump, RefusesPoints};
-ghost use Rattle.covered_cli.specs.Covered.{HasContradiction, HasDatabaseCause, HasEarlyStatus, HasFilesCause, HasGoodDatabases, IsNoCommand, IsSomeCommand, KeepsUnnamed, PrintsReport, WarnsFault};
+ghost use Rattle.covered_cli.specs.Covered.{HasContradiction, HasDatabaseCause, HasEarlyStatus, HasFilesCause, HasGoodDatabases, IsNoCommand, IsSomeCommand, KeepsUnnamed, Leaves, PrintsReport, WarnsFault};
 ghost use Rattle.covered_cli.specs.Fault.{HasForms, IsEarly, Stands, StandsInWork, output_of};
-ghost use Rattle.covered_cli.specs.Scoring.{IsDone, IsDoneWork};
+ghost use Rattle.covered_cli.specs.Scoring.{IsDone, IsDoneWork, IsTextOf};
 
 use crate::Status;
 use crate::fault::Fault;
@@ -46,7 +47,12 @@ pub fn covered<H: Host>(alloc: Global, words: &Words, host: &mut H) -> Status
     ensures unbound { IsCommandWith HasUnboundDump words.now (H.outside host.old) → NoFaults (H.outside host.old) (H.outside host.new) → RefusesBinding words.now result (H.outside host.old) (H.outside host.new) }
     ensures dump { IsCommandWith HasBadDump words.now (H.outside host.old) → NoFaults (H.outside host.old) (H.outside host.new) → RefusesDump result }
 
-    // The causes of the statuses, and the line that is warned.
+    // A status above 0 leaves all files, and what was printed, as they were; or the output, or what was printed, with a front of the
+    // text that the words ask for, which is made whole before the output is opened.
+    ensures left { result ≢ Status.Done → Leaves words.now (H.outside host.old) (H.outside host.new) }
+
+    // The causes of the statuses, and the line that is warned. A fault that comes before the output is opened, as that of a call that reads,
+    // leaves all files, and what was printed, as they were.
     ensures usage { (result ≡ Status.Usage) ↔ IsNoCommand words.now }
     ensures contradiction { result ≡ Status.Contradiction → HasContradiction words.now (H.outside host.old) }
     ensures files { result ≡ Status.Files → HasFilesCause words.now (H.outside host.old) (H.outside host.new) }
@@ -72,6 +78,7 @@ fn run<'a, H: Host>(alloc: Global, words: &'a Words, host: &mut H) -> Result<(),
     ensures others { Told (KeepsUnnamed words.now) (H.outside host.old).files (H.outside host.new).files }
     ensures printed { (PrintsReport words.now → ⊥) → (H.outside host.new).printed ≡ (H.outside host.old).printed }
     ensures warned { (H.outside host.new).warned ≡ (H.outside host.old).warned }
+    ensures left { OnErr result (Leaves words.now (H.outside host.old) (H.outside host.new)) }
     ensures counts { CountsUp (H.outside host.old) (H.outside host.new) }
 {
     match read_command(words) {
@@ -94,6 +101,7 @@ fn run_command<'a, H: Host>(
     ensures others { Told (KeepsUnlessNamed (output_of command.now)) (H.outside host.old).files (H.outside host.new).files }
     ensures printed { PrintsIfUnnamed (output_of command.now) (H.outside host.old) (H.outside host.new) }
     ensures warned { (H.outside host.new).warned ≡ (H.outside host.old).warned }
+    ensures left { OnErr result (LeavesFront (IsTextOf (command_values command.now) (H.outside host.old)) (output_of command.now) (H.outside host.old) (H.outside host.new)) }
     ensures counts { CountsUp (H.outside host.old) (H.outside host.new) }
 {
     match command {

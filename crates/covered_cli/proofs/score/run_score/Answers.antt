@@ -1,5 +1,5 @@
-use Rattle.std.proofs.Common.{sym, subst}
-use Rattle.std.proofs.lemmas.Result.{err_from_is_err_and}
+use Rattle.std.proofs.Common.{Some, sym, subst}
+use Rattle.std.proofs.lemmas.Result.{err_from_is_err_and, on_err_weaker}
 use Rattle.command_line.specs.CommandWords.{score_values}
 use Rattle.design_model.specs.View.{design_view}
 use Rattle.design_points.specs.Counted.{AreAllPoints}
@@ -9,6 +9,9 @@ use Rattle.covered_cli.proofs.Scoring.{IfErr-map, OnOk-map, design_stands, drawi
 use Rattle.covered_cli.proofs.Machines.{drawable, machines_are, written_machines}
 use Rattle.covered_cli.proofs.SourceNames.{AreGoodNames, good_names}
 use Rattle.covered_cli.specs.ScoreSources.{sources_in}
+use Rattle.covered_cli.specs.Scoring.{IsScoredText}
+use Rattle.database_commands.proofs.Reporting.{OnErr-intro, leaves_all, leaves_front}
+use Rattle.whole_files.proofs.EffectLemmas.{OnlyReads-trans}
 use Rattle.covered_cli.proofs.score.run_score.Goals as goal
 
 pub returns-in_err-design-clause-fault : goal.returns-in_err-design-clause-fault
@@ -147,3 +150,62 @@ returns-clause-early g c =
     let later = g.H.Host.outside c.db_of.new.host in
     let after = g.H.Host.outside c.write.new.host in
     IfErr-map c.write.result (λ fault is early. absurd (writing_is_late _ later after fault is early)) c.write.ensures.fault
+
+pub returns-in_err-design-clause-left : goal.returns-in_err-design-clause-left
+returns-in_err-design-clause-left g c =
+    let score = score_values c.args.words.now in
+    let before = g.H.Host.outside c.args.host.now in
+    let middle = g.H.Host.outside c.design_of.new.host in
+    OnErr-intro c.from_residual.result (leaves_all before middle (IsScoredText score before) (Some score.output) c.in_err-design.ensures.effects)
+
+pub returns-in_err-states-clause-left : goal.returns-in_err-states-clause-left
+returns-in_err-states-clause-left g c =
+    let score = score_values c.args.words.now in
+    let before = g.H.Host.outside c.args.host.now in
+    let middle = g.H.Host.outside c.design_of.new.host in
+    OnErr-intro c.from_residual-in_err-states.result (leaves_all before middle (IsScoredText score before) (Some score.output) c.in_ok-design.ensures.effects)
+
+pub returns-in_err-draw_machines-clause-left : goal.returns-in_err-draw_machines-clause-left
+returns-in_err-draw_machines-clause-left g c =
+    let score = score_values c.args.words.now in
+    let before = g.H.Host.outside c.args.host.now in
+    let middle = g.H.Host.outside c.design_of.new.host in
+    OnErr-intro c.from_residual-in_err-draw_machines.result (leaves_all before middle (IsScoredText score before) (Some score.output) c.in_ok-design.ensures.effects)
+
+pub returns-in_err-points-clause-left : goal.returns-in_err-points-clause-left
+returns-in_err-points-clause-left g c =
+    let score = score_values c.args.words.now in
+    let before = g.H.Host.outside c.args.host.now in
+    let middle = g.H.Host.outside c.design_of.new.host in
+    OnErr-intro c.from_residual-in_err-points.result (leaves_all before middle (IsScoredText score before) (Some score.output) c.in_ok-design.ensures.effects)
+
+pub returns-in_err-db-clause-left : goal.returns-in_err-db-clause-left
+returns-in_err-db-clause-left g c =
+    let score = score_values c.args.words.now in
+    let before = g.H.Host.outside c.args.host.now in
+    let middle = g.H.Host.outside c.design_of.new.host in
+    let after = g.H.Host.outside c.db_of.new.host in
+    OnErr-intro c.from_residual-in_err-db.result (leaves_all before after (IsScoredText score before) (Some score.output) (OnlyReads-trans before middle after c.in_ok-design.ensures.effects c.in_err-db.ensures.effects))
+
+pub returns-in_err-text-clause-left : goal.returns-in_err-text-clause-left
+returns-in_err-text-clause-left g c =
+    let score = score_values c.args.words.now in
+    let before = g.H.Host.outside c.args.host.now in
+    let middle = g.H.Host.outside c.design_of.new.host in
+    let after = g.H.Host.outside c.db_of.new.host in
+    OnErr-intro c.from_residual-in_err-text.result (leaves_all before after (IsScoredText score before) (Some score.output) (OnlyReads-trans before middle after c.in_ok-design.ensures.effects c.in_ok-db.ensures.effects))
+
+pub returns-clause-left : goal.returns-clause-left
+returns-clause-left g c =
+    let score = score_values c.args.words.now in
+    let before = g.H.Host.outside c.args.host.now in
+    let middle = g.H.Host.outside c.design_of.new.host in
+    let later = g.H.Host.outside c.db_of.new.host in
+    let after = g.H.Host.outside c.write.new.host in
+    let read = c.in_ok-design.ensures.read in
+    let effects = c.in_ok-design.ensures.effects in
+    let db = c.in_ok-db.ensures in
+    let machines = machines_are score _ _ _ c.in_ok-states.ensures.named c.in_ok-states.ensures.drawn c.draw_machines.ensures.named c.in_ok-draw_machines.ensures.drawn c.in_ok-draw_machines.ensures.placed in
+    let has = has_listed score before read.sources _ _ _ machines read.gathered read.stands c.in_ok-points.ensures.points in
+    let scored = text_is_scored score read.sources _ _ _ _ before middle has read.names effects.files (db.scored _ c.in_ok-points.ensures.points) c.in_ok-text.ensures.text in
+    on_err_weaker c.write.result (leaves_front before later after (IsScoredText score before) (Some score.output) c.in_ok-text.text scored (OnlyReads-trans before middle later effects db.effects)) c.write.ensures.front

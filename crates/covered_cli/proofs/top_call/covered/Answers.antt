@@ -3,6 +3,7 @@ use Rattle.whole_files.proofs.EffectLemmas.{KeepsFiles-trans, Told-trans}
 use Rattle.covered_cli.proofs.Causes.{command_or_fault, contradiction_cause, usage_exactly}
 use Rattle.covered_cli.proofs.Complete.{bad_dump_ends, bad_dump_not_done, bad_source_ends, bad_source_not_done, good_ends, points_end, points_not_done, unbound_ends, unbound_not_done}
 use Rattle.covered_cli.proofs.Databases.{database_cause, early_status, files_cause, good_databases_end, stands_later}
+use Rattle.covered_cli.proofs.Leaving.{all_later, left_later}
 use Rattle.covered_cli.proofs.Lines.{WarnsLine-since}
 use Rattle.covered_cli.proofs.top_call.covered.Goals as goal
 
@@ -74,7 +75,7 @@ returns-in-Err-clause-warned g c above =
     let before = g.H.Host.outside c.args.host.now in
     let middle = g.H.Host.outside c.run.new.host in
     let after = g.H.Host.outside c.warn_of.new.host in
-    (c.in-Err.fault, sym c.status.ensures, stands_later before middle after c.run.ensures.counts c.warn_of.ensures.counts c.args.words.now c.in-Err.fault c.in-Err.ensures.fault, WarnsLine-since _ before middle after c.run.ensures.warned c.run.ensures.counts c.warn_of.ensures.counts c.warn_of.ensures.line)
+    (c.in-Err.fault, sym c.status.ensures, stands_later before middle after c.run.ensures.counts c.warn_of.ensures.counts c.args.words.now c.in-Err.fault c.in-Err.ensures.fault, λ early. all_later before middle after (c.in-Err.ensures.early early, c.in-Err.ensures.unprinted early) c.warn_of.ensures.files c.warn_of.ensures.printed, WarnsLine-since _ before middle after c.run.ensures.warned c.run.ensures.counts c.warn_of.ensures.counts c.warn_of.ensures.line)
 
 pub returns-in-Err-clause-others : goal.returns-in-Err-clause-others
 returns-in-Err-clause-others g c =
@@ -82,3 +83,10 @@ returns-in-Err-clause-others g c =
     let middle = g.H.Host.outside c.run.new.host in
     let after = g.H.Host.outside c.warn_of.new.host in
     Told-trans before.files middle.files after.files (λ old between new first second name unnamed. second name ∙ first name unnamed) c.run.ensures.others c.warn_of.ensures.files
+
+pub returns-in-Err-clause-left : goal.returns-in-Err-clause-left
+returns-in-Err-clause-left g c above =
+    let before = g.H.Host.outside c.args.host.now in
+    let middle = g.H.Host.outside c.run.new.host in
+    let after = g.H.Host.outside c.warn_of.new.host in
+    left_later c.args.words.now before middle after c.in-Err.ensures.left c.warn_of.ensures.files c.warn_of.ensures.printed
