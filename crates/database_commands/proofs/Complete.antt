@@ -9,10 +9,11 @@ use Rattle.coverage_db.specs.Merge.{SameDesign, bare_lines}
 use Rattle.coverage_db.specs.Text.{text_of}
 use Rattle.coverage_db.specs.declared.db.Db.{Db}
 use Rattle.coverage_db.specs.declared.fault.DbKind.{DbKind}
+use Rattle.whole_files.specs.Refusals.{IsRefused}
 use Rattle.whole_files.specs.declared.call.Call.{Call}
 use Rattle.whole_files.specs.declared.call.Call.TheVariants.{OpenRead, Read, OpenWrite, Write, CloseWrite}
 use Rattle.database_commands.specs.Complete.{HasTable, HaveTablesOf, IsGoodMerge, IsGoodReport, NoFaults}
-use Rattle.database_commands.specs.Faults.{ComesTo, IsMergeFault, IsNoTable, IsOtherDesign, IsRefused, IsWriting, inputs_of}
+use Rattle.database_commands.specs.Faults.{ComesTo, IsMergeFault, IsNoTable, IsOtherDesign, IsWriting, inputs_of}
 use Rattle.database_commands.specs.Files.{HoldsTable}
 use Rattle.database_commands.specs.Reporting.{IsReportFault}
 use Rattle.database_commands.specs.declared.fault.CommandFault.{CommandFault}
@@ -30,19 +31,18 @@ there_at (Some files) name text P told missing = let e : Some text ≡ None = sy
 
 -- a call on a file that is there was counted as a fault
 pub refused_there : (before after : Outside) (call : Call) (name : List ℕ) (db : Db) → HasTable before name db → IsRefused call name before after → IsCounted before.faults after.faults
-refused_there before after OpenRead name db has (inl counted) = counted
-refused_there before after OpenRead name db has (inr missing) = absurd (there_at before.files name (text_of db) (IsCounted before.absences after.absences) has.is missing)
-refused_there before after Read name db has counted = counted
-refused_there before after OpenWrite name db has counted = counted
-refused_there before after Write name db has counted = counted
-refused_there before after CloseWrite name db has counted = counted
+refused_there before after OpenRead name db has refused = elim refused.cause [ inl counted ↦ counted | inr missing ↦ absurd (there_at before.files name (text_of db) (IsCounted before.absences after.absences) has.is missing) ]
+refused_there before after Read name db has refused = refused.cause
+refused_there before after OpenWrite name db has refused = refused.cause
+refused_there before after Write name db has refused = refused.cause
+refused_there before after CloseWrite name db has refused = refused.cause
 
 pub refused_write : (before after : Outside) (call : Call) (name : List ℕ) → IsWriting call → IsRefused call name before after → IsCounted before.faults after.faults
 refused_write before after OpenRead name writing refused = absurd writing
 refused_write before after Read name writing refused = absurd writing
-refused_write before after OpenWrite name writing counted = counted
-refused_write before after Write name writing counted = counted
-refused_write before after CloseWrite name writing counted = counted
+refused_write before after OpenWrite name writing refused = refused.cause
+refused_write before after Write name writing refused = refused.cause
+refused_write before after CloseWrite name writing refused = refused.cause
 
 -- what has a table is no other text
 pub table_there : (before : Outside) (name : List ℕ) (db : Db) (kind : DbKind) (line : Option ℕ) → HasTable before name db → IsNoTable name before kind line → ⊥

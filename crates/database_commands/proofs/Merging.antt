@@ -9,9 +9,10 @@ use Rattle.coverage_db.specs.Table.{IsTable}
 use Rattle.coverage_db.specs.declared.db.Db.{Db}
 use Rattle.whole_files.specs.Effects.{CountsUp, OnlyReads}
 use Rattle.whole_files.proofs.EffectLemmas.{OnlyReads-trans}
-use Rattle.database_commands.specs.Faults.{ComesTo, HasMerge, IsJoinFault, IsMergeFault, IsNoTable, IsRefused, IsTableFault, IsWriteFault, inputs_of}
+use Rattle.database_commands.specs.Faults.{ComesTo, HasMerge, IsJoinFault, IsMergeFault, IsNoTable, IsTableFault, IsWriteFault, inputs_of}
 use Rattle.database_commands.specs.Files.{HoldTables, HoldsTable}
 use Rattle.database_commands.specs.Merging.{IsMergeOf}
+use Rattle.whole_files.specs.Refusals.{IsRefused}
 use Rattle.database_commands.specs.declared.fault.CommandFault.{CommandFault}
 use Rattle.database_commands.specs.declared.fault.CommandFault.TheVariants.{Files, Print, Memory, NoDatabase, DesignsDiffer}
 use Rattle.database_commands.proofs.MergedDesign.{differs_from_first, merged_all-push, merged_design}

@@ -7,9 +7,9 @@ use Rattle.coverage_db.specs.declared.db.Db.{Db}
 use Rattle.coverage_db.specs.declared.fault.DbKind.{DbKind}
 use Rattle.whole_files.specs.Effects.{CountsUp, OnlyReads}
 use Rattle.whole_files.specs.declared.call.Call.{Call}
-use Rattle.whole_files.specs.declared.call.Call.TheVariants.{OpenRead, Read, OpenWrite, Write, CloseWrite}
-use Rattle.whole_files.proofs.EffectLemmas.{IsCounted-earlier}
-use Rattle.database_commands.specs.Faults.{IsNoTable, IsRefused}
+use Rattle.whole_files.specs.Refusals.{IsRefused}
+use Rattle.whole_files.proofs.Refusals.{refused_earlier}
+use Rattle.database_commands.specs.Faults.{IsNoTable}
 use Rattle.database_commands.specs.Files.{HoldTables, HoldsTable}
 
 file_as_before : (name text : List ℕ) (before after : Option Files) → Told SameFiles before after → IfSome after (λ files. files name ≡ Some text) → IfSome before (λ files. files name ≡ Some text)
@@ -32,19 +32,6 @@ HoldTables-push before [] (other ∷ tables) name db hold holds = absurd hold
 HoldTables-push before (other ∷ names) [] name db hold holds = absurd hold
 HoldTables-push before (other ∷ names) (first ∷ tables) name db hold holds = (hold.0, HoldTables-push before names tables name db hold.1 holds)
 
--- ---- calls that gave nothing
-
-missing_at : (name : List ℕ) (before middle : Option Files) (absences now after : ℕ) → absences ≤ now → now ≤ after → Told SameFiles before middle → MatchOption middle (IsCounted now after) (λ files. files name ≡ None) → MatchOption before (IsCounted absences after) (λ files. files name ≡ None)
-missing_at name None None absences now after first second same missing = IsCounted-earlier absences now after first second missing
-missing_at name None (Some middle) absences now after first second same missing = absurd same
-missing_at name (Some before) None absences now after first second same missing = absurd same
-missing_at name (Some before) (Some middle) absences now after first second same missing = sym (same name) ∙ missing
-
 -- a call that gave nothing later gave nothing since before
 pub refused_before : (before middle after : Outside) (call : Call) (name : List ℕ) → OnlyReads before middle → CountsUp middle after → IsRefused call name middle after → IsRefused call name before after
-refused_before before middle after OpenRead name effects counts (inl counted) = inl (IsCounted-earlier before.faults middle.faults after.faults effects.counts.faults counts.faults counted)
-refused_before before middle after OpenRead name effects counts (inr missing) = inr (missing_at name before.files middle.files before.absences middle.absences after.absences effects.counts.absences counts.absences effects.files missing)
-refused_before before middle after Read name effects counts counted = IsCounted-earlier before.faults middle.faults after.faults effects.counts.faults counts.faults counted
-refused_before before middle after OpenWrite name effects counts counted = IsCounted-earlier before.faults middle.faults after.faults effects.counts.faults counts.faults counted
-refused_before before middle after Write name effects counts counted = IsCounted-earlier before.faults middle.faults after.faults effects.counts.faults counts.faults counted
-refused_before before middle after CloseWrite name effects counts counted = IsCounted-earlier before.faults middle.faults after.faults effects.counts.faults counts.faults counted
+refused_before before middle after call name effects counts is = refused_earlier before middle after effects.counts counts effects.files call name is

@@ -5,9 +5,10 @@ use Rattle.command_line.specs.DatabaseWords.{ReportValues}
 use Rattle.cov_host.specs.Outside.{Appends, AppendsPrefix, Files as HostFiles, HasFile, Outside, SameFiles, Told}
 use Rattle.whole_files.specs.Effects.{CountsUp, HoldsFront, OnlyReads}
 use Rattle.whole_files.proofs.EffectLemmas.{IsCounted-earlier, Told-trans}
-use Rattle.database_commands.specs.Faults.{IsNoTable, IsRefused, IsTableFault}
+use Rattle.database_commands.specs.Faults.{IsNoTable, IsTableFault}
 use Rattle.database_commands.specs.Files.{HoldsSome}
 use Rattle.database_commands.specs.Reporting.{GivesFront, GivesText, IsGiveFault, IsReportFault, LeavesFront}
+use Rattle.whole_files.specs.Refusals.{IsRefused}
 use Rattle.database_commands.specs.declared.fault.CommandFault.{CommandFault}
 use Rattle.database_commands.specs.declared.fault.CommandFault.TheVariants.{Files, Print, Memory, NoDatabase, DesignsDiffer}
 use Rattle.database_commands.proofs.Reading.{refused_before}

@@ -3,9 +3,10 @@ use Rattle.std.proofs.Common.{◌≡◌, refl, sym, subst, inl, inr}
 use Rattle.command_line.specs.LcovWords.{LcovValues}
 use Rattle.cov_host.specs.Outside.{Outside}
 use Rattle.database_commands.specs.Complete.{HasTable, NoFaults}
-use Rattle.database_commands.specs.Faults.{IsNoTable, IsRefused, IsTableFault, IsWriteFault}
+use Rattle.database_commands.specs.Faults.{IsNoTable, IsTableFault, IsWriteFault}
 use Rattle.database_commands.specs.Files.{HoldsSome}
 use Rattle.database_commands.specs.Tracing.{IsGoodLcov, IsLcovFault}
+use Rattle.whole_files.specs.Refusals.{IsRefused}
 use Rattle.database_commands.specs.declared.fault.CommandFault.{CommandFault}
 use Rattle.database_commands.specs.declared.fault.CommandFault.TheVariants.{Files, Print, Memory, NoDatabase, DesignsDiffer}
 use Rattle.database_commands.proofs.Complete.{refused_there, refused_write, table_there}

@@ -9,7 +9,7 @@ use Rattle.coverage_db.specs.declared.db.Db.{Db}
 use Rattle.coverage_db.specs.declared.fault.DbFault.TheVariants.{At}
 use Rattle.coverage_db.specs.declared.fault.DbKind.{DbKind}
 use Rattle.command_line.specs.DatabaseWords.{MergeValues}
-use Rattle.whole_files.specs.Effects.{IsMissing}
+use Rattle.whole_files.specs.Refusals.{IsRefused}
 use Rattle.whole_files.specs.declared.call.Call.{Call}
 use Rattle.whole_files.specs.declared.call.Call.TheVariants.{OpenRead, Read}
 use Rattle.database_commands.specs.Files.{AreOfOneDesign, HoldTables, HoldsTable, IsFile}
@@ -28,11 +28,6 @@ abbrev pub IsWriting : Call → Type 0
 IsWriting OpenRead = ⊥
 IsWriting Read = ⊥
 IsWriting call = Unit {0}
-
--- the call on the file gave nothing: it failed, or the file that was to be read is not there
-abbrev pub IsRefused : Call → List ℕ → Outside → Outside → Type 0
-IsRefused OpenRead file before after = IsCounted before.faults after.faults ⊎ IsMissing file before after
-IsRefused call file before after = IsCounted before.faults after.faults
 
 -- the text of the file is that of no table of at most 2,147,483,648 bytes, and this is its fault
 pub record IsNoTable (name : List ℕ) (before : Outside) (kind : DbKind) (line : Option ℕ) : Type 0 where

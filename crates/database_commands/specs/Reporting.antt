@@ -12,8 +12,9 @@ use Rattle.command_line.specs.declared.report_level.ReportLevel.{ReportLevel}
 use Rattle.command_line.specs.declared.report_level.ReportLevel.TheVariants.{Summary, Detailed, Verbose}
 use Rattle.command_line.specs.declared.report_metrics.ReportMetrics.{ReportMetrics}
 use Rattle.whole_files.specs.Effects.{HoldsFront}
+use Rattle.whole_files.specs.Refusals.{IsRefused}
 use Rattle.whole_files.specs.declared.call.Call.{Call}
-use Rattle.database_commands.specs.Faults.{IsNoTable, IsReading, IsRefused, IsWriting}
+use Rattle.database_commands.specs.Faults.{IsNoTable, IsReading, IsWriting}
 use Rattle.database_commands.specs.Files.{HoldsSome, HoldsTable, KeepsOthers}
 use Rattle.database_commands.specs.declared.fault.CommandFault.{CommandFault}
 use Rattle.database_commands.specs.declared.fault.CommandFault.TheVariants.{Files, Print, Memory, NoDatabase, DesignsDiffer}

@@ -4,9 +4,10 @@ use Rattle.cov_host.specs.Outside.{HasFile, Outside, Told}
 use Rattle.coverage_db.specs.declared.db.Db.{Db}
 use Rattle.command_line.specs.LcovWords.{LcovValues}
 use Rattle.lcov_text.specs.Tracefile.{tracefile_text}
+use Rattle.whole_files.specs.Refusals.{IsRefused}
 use Rattle.whole_files.specs.declared.call.Call.{Call}
 use Rattle.database_commands.specs.Complete.{HasTable}
-use Rattle.database_commands.specs.Faults.{IsNoTable, IsReading, IsRefused, IsWriting}
+use Rattle.database_commands.specs.Faults.{IsNoTable, IsReading, IsWriting}
 use Rattle.database_commands.specs.Files.{HoldsSome, HoldsTable}
 use Rattle.database_commands.specs.declared.fault.CommandFault.{CommandFault}
 use Rattle.database_commands.specs.declared.fault.CommandFault.TheVariants.{Files, Print, Memory, NoDatabase, DesignsDiffer}

@@ -2,8 +2,9 @@
 use Rattle.std.proofs.Common.{◌≡◌, ◌≢◌, ◌<◌, ℕ, true, List, [], ◌∷◌, ◌++◌, length, take, Option, None, Some, IfSome, refl, sym, ap, subst, ◌∙◌, append_assoc, append-nil, inl, arith}
 use Rattle.std.specs.Prelude.{IsSomeAnd}
 use Rattle.cov_host.specs.Outside.{Files, Outside, IsOpened, IsRead, Told}
-use Rattle.whole_files.specs.Effects.{CountsUp, OnlyReads}
-use Rattle.whole_files.proofs.EffectLemmas.{IsCounted-earlier, OnlyReads-trans}
+use Rattle.whole_files.specs.Effects.{OnlyReads}
+use Rattle.whole_files.proofs.EffectLemmas.{IsCounted-earlier, KeepsFiles-trans, OnlyReads-trans}
+use Rattle.whole_files.proofs.Refusals.{read_failed}
 use Rattle.whole_files.specs.declared.call.Call.TheVariants.{OpenRead, Read, OpenWrite, Write, CloseWrite}
 use Rattle.design_model.specs.declared.design.Design.{Design}
 use Rattle.event_machine.specs.Habit.{Habit}
@@ -71,32 +72,35 @@ nothing_read name before after opened effects = record {
   effects = effects;
 }
 
--- a call that gave nothing later gave nothing
-pub call_fault_earlier : (name : List ℕ) (before middle after : Outside) (f : ScoreFault) → CountsUp before middle → CountsUp middle after → IsPieceFault middle after f → IsCallFault name before after f
-call_fault_earlier name before middle after (fault.Refused Read) first second is = IsCounted-earlier before.faults middle.faults after.faults first.faults second.faults is
-call_fault_earlier name before middle after (fault.Refused OpenRead) first second is = absurd is
-call_fault_earlier name before middle after (fault.Refused OpenWrite) first second is = absurd is
-call_fault_earlier name before middle after (fault.Refused Write) first second is = absurd is
-call_fault_earlier name before middle after (fault.Refused CloseWrite) first second is = absurd is
-call_fault_earlier name before middle after fault.NoMemory first second is = absurd is
-call_fault_earlier name before middle after (fault.Dump f) first second is = absurd is
-call_fault_earlier name before middle after (fault.Bind f) first second is = absurd is
-call_fault_earlier name before middle after (fault.Replay f) first second is = absurd is
+-- a read of the file that failed after a text was read of it
+call_fault_read : (name text : List ℕ) (before middle after : Outside) (f : ScoreFault) → HasReadFile name before middle text → OnlyReads middle after → after.reading ≡ true → IsPieceFault middle after f → IsCallFault name before after f
+call_fault_read name text before middle after (fault.Refused Read) file effects reading is =
+    read_failed name text before middle after file.content (KeepsFiles-trans before middle after file.effects.files effects.files) reading is.1
+    (IsCounted-earlier before.faults middle.faults after.faults file.effects.counts.faults effects.counts.faults is.0)
+call_fault_read name text before middle after (fault.Refused OpenRead) file effects reading is = absurd is
+call_fault_read name text before middle after (fault.Refused OpenWrite) file effects reading is = absurd is
+call_fault_read name text before middle after (fault.Refused Write) file effects reading is = absurd is
+call_fault_read name text before middle after (fault.Refused CloseWrite) file effects reading is = absurd is
+call_fault_read name text before middle after fault.NoMemory file effects reading is = absurd is
+call_fault_read name text before middle after (fault.Dump f) file effects reading is = absurd is
+call_fault_read name text before middle after (fault.Bind f) file effects reading is = absurd is
+call_fault_read name text before middle after (fault.Replay f) file effects reading is = absurd is
 
 -- so it is where a header was read, and a body
-pub header_call_fault : (name : List ℕ) (before middle after : Outside) (f : ScoreFault) → CountsUp before middle → CountsUp middle after → IsPieceFault middle after f → IsHeaderFault name before after f
-header_call_fault name before middle after (fault.Refused call) first second is = call_fault_earlier name before middle after (fault.Refused call) first second is
-header_call_fault name before middle after fault.NoMemory first second is = tt
-header_call_fault name before middle after (fault.Dump f) first second is = absurd is
-header_call_fault name before middle after (fault.Bind f) first second is = absurd is
-header_call_fault name before middle after (fault.Replay f) first second is = absurd is
+pub header_call_fault : (name text : List ℕ) (before middle after : Outside) (f : ScoreFault) → HasReadFile name before middle text → OnlyReads middle after → after.reading ≡ true → IsPieceFault middle after f → IsHeaderFault name before after f
+header_call_fault name text before middle after (fault.Refused call) file effects reading is = call_fault_read name text before middle after (fault.Refused call) file effects reading is
+header_call_fault name text before middle after fault.NoMemory file effects reading is = tt
+header_call_fault name text before middle after (fault.Dump f) file effects reading is = absurd is
+header_call_fault name text before middle after (fault.Bind f) file effects reading is = absurd is
+header_call_fault name text before middle after (fault.Replay f) file effects reading is = absurd is
 
-pub body_call_fault : (name : List ℕ) (before middle after : Outside) (habit : Habit) (design : Design) (instance : List ℕ) (f : ScoreFault) → CountsUp before middle → CountsUp middle after → IsPieceFault middle after f → IsScoreFault name before after habit design instance f
-body_call_fault name before middle after habit design instance (fault.Refused call) first second is = call_fault_earlier name before middle after (fault.Refused call) first second is
-body_call_fault name before middle after habit design instance fault.NoMemory first second is = tt
-body_call_fault name before middle after habit design instance (fault.Dump f) first second is = absurd is
-body_call_fault name before middle after habit design instance (fault.Bind f) first second is = absurd is
-body_call_fault name before middle after habit design instance (fault.Replay f) first second is = absurd is
+pub body_call_fault : (name text : List ℕ) (before middle after : Outside) (habit : Habit) (design : Design) (instance : List ℕ) (f : ScoreFault) → HasReadFile name before middle text → OnlyReads middle after → after.reading ≡ true → IsPieceFault middle after f
+    → IsScoreFault name before after habit design instance f
+body_call_fault name text before middle after habit design instance (fault.Refused call) file effects reading is = call_fault_read name text before middle after (fault.Refused call) file effects reading is
+body_call_fault name text before middle after habit design instance fault.NoMemory file effects reading is = tt
+body_call_fault name text before middle after habit design instance (fault.Dump f) file effects reading is = absurd is
+body_call_fault name text before middle after habit design instance (fault.Bind f) file effects reading is = absurd is
+body_call_fault name text before middle after habit design instance (fault.Replay f) file effects reading is = absurd is
 
 -- what refuses a header refuses the dump
 of_header : (design : Design) (instance text : List ℕ) (f : DumpFault) → IsFaultOfHeader text f → IsDumpFault design instance text f

@@ -1,7 +1,8 @@
 -- A file that is read piece by piece.
-use Rattle.std.specs.Prelude.{◌≡◌, ◌⊎◌, ℕ, true, List, ◌++◌, Some, IfSome, IsSomeAnd}
+use Rattle.std.specs.Prelude.{◌≡◌, ℕ, true, List, ◌++◌, Some, IfSome, IsSomeAnd}
 use Rattle.cov_host.specs.Outside.{Outside, IsCounted}
-use Rattle.whole_files.specs.Effects.{IsMissing, OnlyReads}
+use Rattle.whole_files.specs.Effects.{OnlyReads}
+use Rattle.whole_files.specs.Refusals.{IsRefused}
 use Rattle.whole_files.specs.declared.call.Call.TheVariants.{OpenRead, Read}
 use Rattle.dump_score.specs.declared.fault.ScoreFault.{ScoreFault}
 use Rattle.dump_score.specs.declared.fault.ScoreFault.TheVariants as fault
@@ -18,12 +19,12 @@ pub record HasReadFile (name : List ℕ) (before now : Outside) (text : List ℕ
 
 -- a call of reading gave nothing, because it failed or the file is not there
 abbrev pub IsCallFault : List ℕ → Outside → Outside → ScoreFault → Type 0
-IsCallFault name before after (fault.Refused OpenRead) = IsCounted before.faults after.faults ⊎ IsMissing name before after
-IsCallFault name before after (fault.Refused Read) = IsCounted before.faults after.faults
+IsCallFault name before after (fault.Refused OpenRead) = IsRefused OpenRead name before after
+IsCallFault name before after (fault.Refused Read) = IsRefused Read name before after
 IsCallFault name before after fault.NoMemory = Unit {0}
 IsCallFault name before after other = ⊥
 
--- a piece was not read because the call failed
+-- a piece was not read because the call failed, which took nothing from the file
 abbrev pub IsPieceFault : Outside → Outside → ScoreFault → Type 0
-IsPieceFault before after (fault.Refused Read) = IsCounted before.faults after.faults
+IsPieceFault before after (fault.Refused Read) = IsCounted before.faults after.faults × (after.rest ≡ before.rest)
 IsPieceFault before after other = ⊥

@@ -126,9 +126,8 @@ not_missing_at (Some files) name text P told is missing = let e : Some text ≡ 
 
 -- a call on a file that is there gave nothing only where a fault was counted
 call_counted : (before after : Outside) (path text : List ℕ) (call : Call) → IsSome before.files → IsFile before path text → IsRefusedCall before after path call → IsCounted before.faults after.faults
-call_counted before after path text OpenRead told is (inl counted) = counted
-call_counted before after path text OpenRead told is (inr missing) = absurd (not_missing_at before.files path text _ told is missing)
-call_counted before after path text Read told is counted = counted
+call_counted before after path text OpenRead told is refused = elim refused.cause [ inl counted ↦ counted | inr missing ↦ absurd (not_missing_at before.files path text _ told is missing) ]
+call_counted before after path text Read told is refused = refused.cause
 call_counted before after path text OpenWrite told is counted = absurd counted
 call_counted before after path text Write told is counted = absurd counted
 call_counted before after path text CloseWrite told is counted = absurd counted

@@ -15,7 +15,7 @@ use Rattle.whole_files.specs.Effects.{OnlyReads}
 use Rattle.whole_files.specs.Files.{IsContent}
 use Rattle.whole_files.specs.declared.call.Call.{Call}
 use Rattle.whole_files.specs.declared.call.Call.TheVariants.{OpenRead, Read, OpenWrite, Write, CloseWrite}
-use Rattle.whole_files.proofs.EffectLemmas.{IsCounted-earlier}
+use Rattle.whole_files.proofs.Refusals.{refused_earlier}
 use Rattle.source_files.specs.Files.{IsFile}
 use Rattle.source_files.specs.Joining.{IsJoinFault, IsRefusedCall, Joins}
 use Rattle.source_files.specs.declared.fault.JoinFault.{JoinFault}
@@ -127,19 +127,12 @@ file_as_before path text None (Some after) same is = absurd same
 file_as_before path text (Some before) None same is = absurd same
 file_as_before path text (Some before) (Some after) same is = sym (same path) ∙ is
 
-missing_earlier : (path : List ℕ) (before middle : Option Files) (first last m : ℕ) → first ≤ m → m ≤ last → Told SameFiles before middle → MatchOption middle (IsCounted m last) (λ files. files path ≡ None) → MatchOption before (IsCounted first last) (λ files. files path ≡ None)
-missing_earlier path None None first last m up more same missing = IsCounted-earlier first m last up more missing
-missing_earlier path None (Some middle) first last m up more same missing = absurd same
-missing_earlier path (Some before) None first last m up more same missing = absurd same
-missing_earlier path (Some before) (Some middle) first last m up more same missing = sym (same path) ∙ missing
-
 pub call_earlier : (path : List ℕ) (before middle after : Outside) (call : Call) → OnlyReads before middle → OnlyReads middle after → IsRefusedCall middle after path call → IsRefusedCall before after path call
-call_earlier path before middle after OpenRead first second (inl counted) = inl (IsCounted-earlier before.faults middle.faults after.faults first.counts.faults second.counts.faults counted)
-call_earlier path before middle after OpenRead first second (inr missing) = inr (missing_earlier path before.files middle.files before.absences after.absences middle.absences first.counts.absences second.counts.absences first.files missing)
-call_earlier path before middle after Read first second counted = IsCounted-earlier before.faults middle.faults after.faults first.counts.faults second.counts.faults counted
-call_earlier path before middle after OpenWrite first second counted = absurd counted
-call_earlier path before middle after Write first second counted = absurd counted
-call_earlier path before middle after CloseWrite first second counted = absurd counted
+call_earlier path before middle after OpenRead first second is = refused_earlier before middle after first.counts second.counts first.files OpenRead path is
+call_earlier path before middle after Read first second is = refused_earlier before middle after first.counts second.counts first.files Read path is
+call_earlier path before middle after OpenWrite first second is = absurd is
+call_earlier path before middle after Write first second is = absurd is
+call_earlier path before middle after CloseWrite first second is = absurd is
 
 pub join_fault_earlier : (path name : List ℕ) (before middle after : Outside) (sources : List SourceText) (fault : JoinFault) → OnlyReads before middle → OnlyReads middle after → IsJoinFault middle after path name sources fault → IsJoinFault before after path name sources fault
 join_fault_earlier path name before middle after sources join_fault.NoMemory first second is = tt

@@ -1,9 +1,9 @@
 -- How a file joins the sources, and why it does not.
-use Rattle.std.specs.Prelude.{◌≡◌, ◌⊎◌, ℕ, Bool, List, [], ◌∷◌, ◌++◌, length, None, Some}
-use Rattle.cov_host.specs.Outside.{Outside, IsCounted}
+use Rattle.std.specs.Prelude.{◌≡◌, ℕ, Bool, List, [], ◌∷◌, ◌++◌, length, None, Some}
+use Rattle.cov_host.specs.Outside.{Outside}
 use Rattle.verilog_lexer.specs.Sources.{AreWithinLimits, SourceText, refusal_of}
 use Rattle.verilog_lexer.specs.declared.fault.LexFault.TheVariants as lex_fault
-use Rattle.whole_files.specs.Effects.{IsMissing}
+use Rattle.whole_files.specs.Refusals.{IsRefused}
 use Rattle.whole_files.specs.declared.call.Call.{Call}
 use Rattle.whole_files.specs.declared.call.Call.TheVariants.{OpenRead, Read}
 use Rattle.source_files.specs.Files.{AreRoots, IsFile}
@@ -20,8 +20,8 @@ pub record Joins (before : Outside) (path name : List ℕ) (root : Bool) (old ne
 
 -- a call that reads the file at the path gave nothing
 abbrev pub IsRefusedCall : Outside → Outside → List ℕ → Call → Type 0
-IsRefusedCall before after path OpenRead = IsCounted before.faults after.faults ⊎ IsMissing path before after
-IsRefusedCall before after path Read = IsCounted before.faults after.faults
+IsRefusedCall before after path OpenRead = IsRefused OpenRead path before after
+IsRefusedCall before after path Read = IsRefused Read path before after
 IsRefusedCall before after path call = ⊥
 
 -- the file at the path does not fit after the sources, under the name

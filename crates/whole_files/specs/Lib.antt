@@ -1,3 +1,4 @@
 pub mod Call
 pub mod Effects
 pub mod Files
+pub mod Refusals

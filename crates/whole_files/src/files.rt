@@ -2,7 +2,7 @@ ghost use Rattle.std.specs.Prelude.{◌≡◌, ◌≢◌, ◌<◌, ◌≤◌, �
 ghost use Rattle.cov_host.specs.Outside.{AppendsTo, HasFile, IsOpened, KeepsOutput, KeepsStreams, Told};
 ghost use Rattle.whole_files.specs.Effects.{AppendsFront, CountsUp, HasTarget, HoldsFront, OnlyReads};
 ghost use Rattle.whole_files.specs.declared.files.FileFault.TheVariants as file_fault;
-ghost use Rattle.whole_files.specs.Files.{IfRefused, IsContent, IsPieceFault, IsReadFault, IsWriteFault};
+ghost use Rattle.whole_files.specs.Files.{IfRefused, IsContent, IsPieceFault, IsReadFault, IsRestFault, IsWriteFault};
 
 use crate::Call;
 use cov_host::{Bytes, Failed, Host, HostFault, OpenFault};
@@ -98,7 +98,7 @@ pub fn write_file<H: Host>(host: &mut H, name: &str, text: &[u8]) -> Result<(), 
     ensures written { OnOk result (Told (HasFile name.now text.now) (H.outside host.old).files (H.outside host.new).files) }
     ensures front { OnErr result (Told (HoldsFront name.now text.now) (H.outside host.old).files (H.outside host.new).files) }
     ensures closed { OnOk result ((H.outside host.new).writing ≡ false) }
-    ensures refused { IfErr result (IsWriteFault (H.outside host.old) (H.outside host.new)) }
+    ensures refused { IfErr result (IsWriteFault name.now (H.outside host.old) (H.outside host.new)) }
     ensures streams { KeepsStreams (H.outside host.old) (H.outside host.new) }
     ensures counts { CountsUp (H.outside host.old) (H.outside host.new) }
 {
@@ -119,7 +119,7 @@ fn write_all<H: Host>(host: &mut H, text: &[u8]) -> Result<(), FileFault>
     requires target { HasTarget (H.outside host.old) }
     ensures written { OnOk result (Told (AppendsTo (H.outside host.old).target text.now) (H.outside host.old).files (H.outside host.new).files) }
     ensures front { OnErr result (Told (AppendsFront (H.outside host.old).target text.now) (H.outside host.old).files (H.outside host.new).files) }
-    ensures refused { IfErr result (IsWriteFault (H.outside host.old) (H.outside host.new)) }
+    ensures refused { IfErr result (IsRestFault (H.outside host.old) (H.outside host.new)) }
     ensures output { KeepsOutput (H.outside host.old) (H.outside host.new) }
     ensures streams { KeepsStreams (H.outside host.old) (H.outside host.new) }
     ensures counts { CountsUp (H.outside host.old) (H.outside host.new) }

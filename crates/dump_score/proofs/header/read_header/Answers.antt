@@ -1,9 +1,15 @@
 use Rattle.std.proofs.Common.{◌+◌, ◌++◌, take, ap, arith}
 use Rattle.std.proofs.lemmas.Result.{err_from_is_err_and}
 use Rattle.whole_files.proofs.EffectLemmas.{OnlyReads-trans}
-use Rattle.dump_score.proofs.FileLemmas.{read_all_of, read_more}
+use Rattle.dump_score.proofs.FileLemmas.{header_call_fault, read_all_of, read_more}
 use Rattle.dump_score.proofs.Opening.{count_is, header_fault, header_opened, more_length}
 use Rattle.dump_score.proofs.header.read_header.Goals as goal
+
+pub returns-in_err-count-clause-fault : goal.returns-in_err-count-clause-fault
+returns-in_err-count-clause-fault g c =
+    let fault = err_from_is_err_and c.from_residual.result c.from_residual.ensures.1 in
+    let turn = c.loop-at.invariant in
+    rw (fault.1, fault.2) (λ name before file. header_call_fault name turn.text before _ _ _ (turn.file name before file) c.in_err-count.ensures.effects c.in_err-count.ensures.reading c.in_err-count.ensures.fault)
 
 pub returns-in_err-feed-clause-fault : goal.returns-in_err-feed-clause-fault
 returns-in_err-feed-clause-fault g c =

@@ -1,6 +1,7 @@
 use Rattle.std.proofs.Common.{◌++◌, take, arith}
 use Rattle.whole_files.proofs.EffectLemmas.{OnlyReads-refl, OnlyReads-trans}
-use Rattle.dump_score.proofs.FileLemmas.{read_all_of, read_more}
+use Rattle.std.proofs.lemmas.Result.{err_from_is_err_and}
+use Rattle.dump_score.proofs.FileLemmas.{body_call_fault, read_all_of, read_more}
 use Rattle.dump_score.proofs.Opening.{can_end, found_in_file, more_length, not_too_long, scoring_binds_on}
 use Rattle.dump_score.proofs.items.score_rest.Goals as goal
 
@@ -16,6 +17,13 @@ pub returns-then-count-eq0-clause-ok : goal.returns-then-count-eq0-clause-ok
 returns-then-count-eq0-clause-ok g c = λ name before habit design points vars instance text file at is.
     let turn = c.loop-at.invariant.scores name before habit design points vars instance text file at is in
     (turn.0, read_all_of name turn.0 _ c.in_ok-count.count before _ _ turn.1 c.in_ok-count.ensures.read c.if-count-eq0.true (omega (arith, c.requires.piece, c.loop-at.auto.piece, c.read.auto.piece)), can_end _ _ habit design points vars instance turn.0 turn.3)
+
+pub returns-in_err-count-clause-fault : goal.returns-in_err-count-clause-fault
+returns-in_err-count-clause-fault g c =
+    let fault = err_from_is_err_and c.from_residual.result c.from_residual.ensures.1 in
+    rw (fault.1, fault.2) (λ name before habit design points vars instance text file at is.
+    let turn = c.loop-at.invariant.scores name before habit design points vars instance text file at is in
+    body_call_fault name turn.0 before _ _ habit design instance _ turn.1 c.in_err-count.ensures.effects c.in_err-count.ensures.reading c.in_err-count.ensures.fault)
 
 pub returns-in-Err-clause-fault : goal.returns-in-Err-clause-fault
 returns-in-Err-clause-fault g c = λ name before habit design points vars instance text file at is.
