@@ -35,7 +35,8 @@ use Rattle.covered_cli.proofs.GoodDumps.{not_contradicted, not_refused, same_bin
 use Rattle.covered_cli.specs.Complete.{EndsWith, HasBadDump, HasBadSource, HasText, HasUnboundDump, HaveTexts, IsCommandWith, IsGoodScore, IsOfBinding, LacksPoints, NoFaults, RefusesBinding, RefusesDump, RefusesPoints}
 use Rattle.covered_cli.specs.Drawing.{IsNoMachineOf}
 use Rattle.covered_cli.specs.Effects.{WarnsLine}
-use Rattle.covered_cli.specs.Fault.{IsRefused, NamesFile, Stands, line_of, status_of}
+use Rattle.covered_cli.specs.Fault.{NamesFile, Stands, line_of, status_of}
+use Rattle.whole_files.specs.Refusals.{IsRefused}
 use Rattle.covered_cli.proofs.Designs.{lawful_design}
 use Rattle.covered_cli.specs.PointsMessage.{points_line, points_status}
 use Rattle.covered_cli.specs.ScoreMachines.{AreMachinesOf, habit_in}
@@ -67,12 +68,11 @@ is_told (Some files) name text told = refl
 
 -- a call that gave nothing was counted as a fault, since the dump is there
 refused_call : (score : ScoreValues) (before after : Outside) (text : List ℕ) → HasText before score.dump text → (call : Call) (file : List ℕ) → NamesFile score call file → IsRefused call file before after → IsCounted before.faults after.faults
-refused_call score before after text is OpenRead file named (inl counted) = counted
-refused_call score before after text is OpenRead file named (inr missing) = absurd (not_missing_at before.files score.dump text _ is (subst (λ name. IsMissing name before after) named missing))
-refused_call score before after text is Read file named counted = counted
-refused_call score before after text is OpenWrite file named counted = counted
-refused_call score before after text is Write file named counted = counted
-refused_call score before after text is CloseWrite file named counted = counted
+refused_call score before after text is OpenRead file named refused = elim refused.cause [ inl counted ↦ counted | inr missing ↦ absurd (not_missing_at before.files score.dump text _ is (subst (λ name. IsMissing name before after) named missing)) ]
+refused_call score before after text is Read file named refused = refused.cause
+refused_call score before after text is OpenWrite file named refused = refused.cause
+refused_call score before after text is Write file named refused = refused.cause
+refused_call score before after text is CloseWrite file named refused = refused.cause
 
 -- the sources of a command that are told
 module _ (score : ScoreValues) (before : Outside) (sources : List SourceText) (told : IsSome before.files) (gathered : HasSources (sources_in score) before sources) where

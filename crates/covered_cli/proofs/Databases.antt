@@ -8,8 +8,8 @@ use Rattle.command_line.specs.CommandWords.{IsScore, ScoreValues}
 use Rattle.command_line.specs.DatabaseWords.{IsMerge, IsReport, MergeValues, ReportValues}
 use Rattle.command_line.specs.LcovWords.{IsLcov, LcovValues}
 use Rattle.command_line.proofs.OneCommand.{one_lcov, one_merge, one_of_all, one_report}
-use Rattle.cov_host.specs.Outside.{Files as HostFiles, IsCounted, Outside}
-use Rattle.database_commands.specs.Faults.{ComesTo, IsMergeFault, IsNoTable, IsReading, IsRefused as IsRefusedFile, inputs_of}
+use Rattle.cov_host.specs.Outside.{Files as HostFiles, IsCounted, KeepsFiles, KeepsInput, KeepsOutput, Outside}
+use Rattle.database_commands.specs.Faults.{ComesTo, IsMergeFault, IsNoTable, IsReading, inputs_of}
 use Rattle.database_commands.specs.Reporting.{IsReportFault}
 use Rattle.database_commands.specs.Tracing.{IsLcovFault}
 use Rattle.database_commands.specs.declared.fault.CommandFault.{CommandFault}
@@ -20,10 +20,12 @@ use Rattle.whole_files.specs.Effects.{CountsUp, IsMissing}
 use Rattle.whole_files.specs.declared.call.Call.{Call}
 use Rattle.whole_files.specs.declared.call.Call.TheVariants.{OpenRead, Read, OpenWrite, Write, CloseWrite}
 use Rattle.whole_files.proofs.EffectLemmas.{IsCounted-later}
+use Rattle.whole_files.proofs.Refusals.{refused_later}
+use Rattle.whole_files.specs.Refusals.{IsRefused}
 use Rattle.covered_cli.specs.Complete.{EndsWith, NoFaults}
 use Rattle.covered_cli.specs.Covered.{HasDatabaseCause, HasEarlyStatus, HasFilesCause, HasGoodDatabases, IsIncluded, IsInput}
 use Rattle.covered_cli.specs.Databases.{database_status}
-use Rattle.covered_cli.specs.Fault.{IsEarly, IsRefused, NamesFile, Stands, StandsInDatabases, status_of}
+use Rattle.covered_cli.specs.Fault.{IsEarly, NamesFile, Stands, StandsInDatabases, status_of}
 use Rattle.source_files.specs.Joining.{IsRefusedCall}
 use Rattle.source_design.proofs.Gathering.{root_named}
 use Rattle.source_design.specs.Reading.{IsSourceFault}
@@ -170,16 +172,16 @@ missing_cause : (words : List (List ℕ)) (before after : Outside) (name : List 
 missing_cause words before after name input refused = missing_read words before after name (inl input) refused
 
 score_call : (words : List (List ℕ)) (before after : Outside) (score : ScoreValues) (call : Call) (file : List ℕ) → IsScore words score → NamesFile score call file → IsRefused call file before after → HasFilesCause words before after
-score_call words before after score OpenRead file is names refused = missing_cause words before after file (of_score score, is, (0, omega arith, sym names)) refused
-score_call words before after score Read file is names counted = inl counted
-score_call words before after score OpenWrite file is names counted = inl counted
-score_call words before after score Write file is names counted = inl counted
-score_call words before after score CloseWrite file is names counted = inl counted
+score_call words before after score OpenRead file is names refused = missing_cause words before after file (of_score score, is, (0, omega arith, sym names)) refused.cause
+score_call words before after score Read file is names refused = inl refused.cause
+score_call words before after score OpenWrite file is names refused = inl refused.cause
+score_call words before after score Write file is names refused = inl refused.cause
+score_call words before after score CloseWrite file is names refused = inl refused.cause
 
 -- a file of the words or of their sources was not read
 source_call : (words : List (List ℕ)) (before after : Outside) (call : Call) (path : List ℕ) → IsInput words path ⊎ IsIncluded words before path → IsRefusedCall before after path call → HasFilesCause words before after
-source_call words before after OpenRead path input refused = missing_read words before after path input refused
-source_call words before after Read path input counted = inl counted
+source_call words before after OpenRead path input refused = missing_read words before after path input refused.cause
+source_call words before after Read path input refused = inl refused.cause
 source_call words before after OpenWrite path input counted = absurd counted
 source_call words before after Write path input counted = absurd counted
 source_call words before after CloseWrite path input counted = absurd counted
@@ -191,9 +193,9 @@ source_files_cause words before after score is (source_fault.File call file) sta
 source_files_cause words before after score is (source_fault.Included call path) stands same = source_call words before after call path (inr (score, is, stands.0)) stands.1
 source_files_cause words before after score is (source_fault.Refused refusal) stands same = absurd cc
 
-reading_call : (words : List (List ℕ)) (before after : Outside) (call : Call) (file : List ℕ) → IsReading call → IsInput words file → IsRefusedFile call file before after → HasFilesCause words before after
-reading_call words before after OpenRead file reading input refused = missing_cause words before after file input refused
-reading_call words before after Read file reading input counted = inl counted
+reading_call : (words : List (List ℕ)) (before after : Outside) (call : Call) (file : List ℕ) → IsReading call → IsInput words file → IsRefused call file before after → HasFilesCause words before after
+reading_call words before after OpenRead file reading input refused = missing_cause words before after file input refused.cause
+reading_call words before after Read file reading input refused = inl refused.cause
 reading_call words before after OpenWrite file reading input counted = absurd reading
 reading_call words before after Write file reading input counted = absurd reading
 reading_call words before after CloseWrite file reading input counted = absurd reading
@@ -239,38 +241,19 @@ files_cause words before middle after first second fault stands is = cause_later
 
 -- ---- a fault stands also where more was counted since
 
-missing_later : (name : List ℕ) (files : Option HostFiles) (a b c : ℕ) → a ≤ b → b ≤ c → MatchOption files (IsCounted a b) (λ files. files name ≡ None) → MatchOption files (IsCounted a c) (λ files. files name ≡ None)
-missing_later name None a b c first second missing = IsCounted-later a b c first second missing
-missing_later name (Some files) a b c first second missing = missing
-
-module _ (before middle after : Outside) (first : CountsUp before middle) (second : CountsUp middle after) where
+module _ (before middle after : Outside) (first : CountsUp before middle) (second : CountsUp middle after) (files : KeepsFiles middle after) (input : KeepsInput middle after) (output : KeepsOutput middle after) where
   counted_later : IsCounted before.faults middle.faults → IsCounted before.faults after.faults
   counted_later counted = IsCounted-later before.faults middle.faults after.faults first.faults second.faults counted
 
-  open_later : (name : List ℕ) → IsCounted before.faults middle.faults ⊎ IsMissing name before middle → IsCounted before.faults after.faults ⊎ IsMissing name before after
-  open_later name (inl counted) = inl (counted_later counted)
-  open_later name (inr missing) = inr (missing_later name before.files before.absences middle.absences after.absences first.absences second.absences missing)
-
-  refused_later : (call : Call) (name : List ℕ) → IsRefused call name before middle → IsRefused call name before after
-  refused_later OpenRead name refused = open_later name refused
-  refused_later Read name counted = counted_later counted
-  refused_later OpenWrite name counted = counted_later counted
-  refused_later Write name counted = counted_later counted
-  refused_later CloseWrite name counted = counted_later counted
-
-  refused_file_later : (call : Call) (name : List ℕ) → IsRefusedFile call name before middle → IsRefusedFile call name before after
-  refused_file_later OpenRead name refused = open_later name refused
-  refused_file_later Read name counted = counted_later counted
-  refused_file_later OpenWrite name counted = counted_later counted
-  refused_file_later Write name counted = counted_later counted
-  refused_file_later CloseWrite name counted = counted_later counted
+  call_later : (call : Call) (name : List ℕ) → IsRefused call name before middle → IsRefused call name before after
+  call_later call name refused = refused_later before middle after first second files input output call name refused
 
   source_call_later : (call : Call) (path : List ℕ) → IsRefusedCall before middle path call → IsRefusedCall before after path call
-  source_call_later OpenRead path refused = open_later path refused
-  source_call_later Read path counted = counted_later counted
-  source_call_later OpenWrite path counted = counted
-  source_call_later Write path counted = counted
-  source_call_later CloseWrite path counted = counted
+  source_call_later OpenRead path refused = call_later OpenRead path refused
+  source_call_later Read path refused = call_later Read path refused
+  source_call_later OpenWrite path refused = refused
+  source_call_later Write path refused = refused
+  source_call_later CloseWrite path refused = refused
 
   source_later : (words : SourceValues) (f : SourceFault) → IsSourceFault words before middle f → IsSourceFault words before after f
   source_later words source_fault.NoMemory stands = tt
@@ -280,24 +263,24 @@ module _ (before middle after : Outside) (first : CountsUp before middle) (secon
   source_later words (source_fault.Refused refusal) stands = stands
 
   merge_fault_later : (merge : MergeValues) (f : CommandFault) → IsMergeFault merge before middle f → IsMergeFault merge before after f
-  merge_fault_later merge (database.Files call file) (inl fault) = inl (fault.0, fault.1, refused_file_later call file.now fault.2)
-  merge_fault_later merge (database.Files call file) (inr fault) = inr (fault.0, fault.1, refused_file_later call file.now fault.2, fault.3)
+  merge_fault_later merge (database.Files call file) (inl fault) = inl (fault.0, fault.1, call_later call file.now fault.2)
+  merge_fault_later merge (database.Files call file) (inr fault) = inr (fault.0, fault.1, call_later call file.now fault.2, fault.3)
   merge_fault_later merge database.Print fault = absurd fault
   merge_fault_later merge database.Memory fault = tt
   merge_fault_later merge (database.NoDatabase file kind line) fault = fault
   merge_fault_later merge (database.DesignsDiffer file line one other) fault = fault
 
   report_fault_later : (report : ReportValues) (f : CommandFault) → IsReportFault report before middle f → IsReportFault report before after f
-  report_fault_later report (database.Files call file) (inl fault) = inl (fault.0, fault.1, refused_file_later call file.now fault.2)
-  report_fault_later report (database.Files call file) (inr fault) = inr (fault.0, fault.1, refused_file_later call file.now fault.2, fault.3)
+  report_fault_later report (database.Files call file) (inl fault) = inl (fault.0, fault.1, call_later call file.now fault.2)
+  report_fault_later report (database.Files call file) (inr fault) = inr (fault.0, fault.1, call_later call file.now fault.2, fault.3)
   report_fault_later report database.Print fault = (fault.0, counted_later fault.1, fault.2)
   report_fault_later report database.Memory fault = tt
   report_fault_later report (database.NoDatabase file kind line) fault = fault
   report_fault_later report (database.DesignsDiffer file line one other) fault = absurd fault
 
   lcov_fault_later : (lcov : LcovValues) (f : CommandFault) → IsLcovFault lcov before middle f → IsLcovFault lcov before after f
-  lcov_fault_later lcov (database.Files call file) (inl fault) = inl (fault.0, fault.1, refused_file_later call file.now fault.2)
-  lcov_fault_later lcov (database.Files call file) (inr fault) = inr (fault.0, fault.1, refused_file_later call file.now fault.2, fault.3)
+  lcov_fault_later lcov (database.Files call file) (inl fault) = inl (fault.0, fault.1, call_later call file.now fault.2)
+  lcov_fault_later lcov (database.Files call file) (inr fault) = inr (fault.0, fault.1, call_later call file.now fault.2, fault.3)
   lcov_fault_later lcov database.Print fault = absurd fault
   lcov_fault_later lcov database.Memory fault = tt
   lcov_fault_later lcov (database.NoDatabase file kind line) fault = fault
@@ -315,6 +298,6 @@ module _ (before middle after : Outside) (first : CountsUp before middle) (secon
   stands_later words (PointsFault p) stands = stands
   stands_later words (Dump refusal) stands = stands
   stands_later words (Contradiction found) stands = stands
-  stands_later words (FilesFault call file) stands = (stands.0, stands.1, (stands.2.0, refused_later call file.now stands.2.1, stands.2.2, stands.2.3))
+  stands_later words (FilesFault call file) stands = (stands.0, stands.1, (stands.2.0, call_later call file.now stands.2.1, stands.2.2, stands.2.3))
   stands_later words Memory stands = stands
   stands_later words (Databases f) stands = databases_stand_later words f stands

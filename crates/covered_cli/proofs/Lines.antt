@@ -3,7 +3,7 @@ use Rattle.std.proofs.Common.{◌≡◌, ℕ, zero, suc, ◌+◌, ◌<◌, List,
 use Rattle.std.proofs.Math.Seq.{take-append-add}
 use Rattle.std.proofs.lemmas.List.{take_at}
 use Rattle.std.specs.List.{flat_map}
-use Rattle.cov_host.specs.Outside.{Outside, Told, Appends, AppendsPrefix}
+use Rattle.cov_host.specs.Outside.{Outside, Told, Appends, AppendsPrefix, KeepsInput}
 use Rattle.whole_files.specs.Effects.{CountsUp}
 use Rattle.whole_files.proofs.EffectLemmas.{IsCounted-earlier}
 use Rattle.covered_cli.specs.Effects.{WarnsLine}
@@ -31,6 +31,9 @@ AppendsPrefix-after line whole piece (Some x) (Some y) None joins first second =
 AppendsPrefix-after line whole piece (Some x) (Some y) (Some z) joins first second =
     let joined = joins second.0 in
     (joined.0, second.1 ∙ ap (λ all. all ++ take second.0 piece) first ∙ append_assoc x whole (take second.0 piece) ∙ ap (λ all. x ++ all) joined.1)
+
+pub KeepsInput-trans : (a b c : Outside) → KeepsInput a b → KeepsInput b c → KeepsInput a c
+KeepsInput-trans a b c first second = record { rest = second.rest ∙ first.rest; reading = second.reading ∙ first.reading }
 
 -- a line that is warned after work that warned nothing
 pub WarnsLine-since : (line : List ℕ) (before middle after : Outside) → middle.warned ≡ before.warned → CountsUp before middle → CountsUp middle after → WarnsLine line middle after → WarnsLine line before after

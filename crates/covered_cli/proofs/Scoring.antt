@@ -26,20 +26,10 @@ use Rattle.dump_score.specs.Reading.{IsFile}
 use Rattle.dump_score.specs.Scoring.{IsScoreOfFile}
 use Rattle.dump_score.specs.score_tables.Head.{HasHead}
 use Rattle.verilog_lexer.specs.Sources.{SourceText}
-use Rattle.whole_files.proofs.EffectLemmas.{IsCounted-earlier, Told-map, Told-trans}
-use Rattle.whole_files.specs.Effects.{CountsUp, IsMissing}
+use Rattle.whole_files.proofs.EffectLemmas.{Told-map, Told-trans}
+use Rattle.whole_files.proofs.Refusals.{refused_earlier}
+use Rattle.whole_files.specs.Effects.{CountsUp}
 use Rattle.whole_files.specs.declared.call.Call.TheVariants.{OpenRead, Read, OpenWrite, Write, CloseWrite}
-
-missing_earlier : (name : List ℕ) (before middle after : Option Files) (first last : ℕ) (m : ℕ) → first ≤ m → m ≤ last → Told SameFiles before middle → MatchOption middle (IsCounted m last) (λ files. files name ≡ None) → MatchOption before (IsCounted first last) (λ files. files name ≡ None)
-missing_earlier name None None after first last m up more same missing = IsCounted-earlier first m last up more missing
-missing_earlier name None (Some middle) after first last m up more same missing = absurd same
-missing_earlier name (Some before) None after first last m up more same missing = absurd same
-missing_earlier name (Some before) (Some middle) after first last m up more same missing = sym (same name) ∙ missing
-
--- a file that could not be opened later could not be opened
-refused_earlier : (name : List ℕ) (before middle after : Outside) → KeepsFiles before middle → CountsUp before middle → CountsUp middle after → IsCounted middle.faults after.faults ⊎ IsMissing name middle after → IsCounted before.faults after.faults ⊎ IsMissing name before after
-refused_earlier name before middle after kept first second (inl counted) = inl (IsCounted-earlier before.faults middle.faults after.faults first.faults second.faults counted)
-refused_earlier name before middle after kept first second (inr missing) = inr (missing_earlier name before.files middle.files after.files before.absences after.absences middle.absences first.absences second.absences kept missing)
 
 file_as_before : (name text : List ℕ) (before after : Option Files) → Told SameFiles before after → IfSome after (λ files. files name ≡ Some text) → IfSome before (λ files. files name ≡ Some text)
 file_as_before name text None None same is = tt
@@ -99,8 +89,8 @@ reading_stands score before middle after has kept first second (NoMachine name) 
 reading_stands score before middle after has kept first second (PointsFault p) is = absurd is
 reading_stands score before middle after has kept first second (Dump refusal) is = absurd is
 reading_stands score before middle after has kept first second (Contradiction found) is = absurd is
-reading_stands score before middle after has kept first second (FilesFault OpenRead file) is = (is.0, refused_earlier file.now before middle after kept first second is.1, has, tt)
-reading_stands score before middle after has kept first second (FilesFault Read file) is = (is.0, IsCounted-earlier before.faults middle.faults after.faults first.faults second.faults is.1, has, tt)
+reading_stands score before middle after has kept first second (FilesFault OpenRead file) is = (is.0, refused_earlier before middle after first second kept OpenRead file.now is.1, has, tt)
+reading_stands score before middle after has kept first second (FilesFault Read file) is = (is.0, refused_earlier before middle after first second kept Read file.now is.1, has, tt)
 reading_stands score before middle after has kept first second (FilesFault OpenWrite file) is = absurd is
 reading_stands score before middle after has kept first second (FilesFault Write file) is = absurd is
 reading_stands score before middle after has kept first second (FilesFault CloseWrite file) is = absurd is
@@ -184,20 +174,20 @@ some_design : (score : ScoreValues) (before : Outside) → HasSomeScore score be
 some_design score before has = (has.1.sources, has.1.design, has.1.has_design)
 
 -- a fault of writing stands
-pub writing_stands : (score : ScoreValues) (before later after : Outside) → HasSomeScore score before → CountsUp before later → CountsUp later after → (fault : Fault) → IsWritingFault score.output later after fault → StandsIn score before after fault
-writing_stands score before later after has first second (Usage usage) is = absurd is
-writing_stands score before later after has first second (Source f) is = absurd is
-writing_stands score before later after has first second (NoMachine name) is = absurd is
-writing_stands score before later after has first second (PointsFault p) is = absurd is
-writing_stands score before later after has first second (Dump refusal) is = absurd is
-writing_stands score before later after has first second (Contradiction found) is = absurd is
-writing_stands score before later after has first second (FilesFault OpenRead file) is = absurd is
-writing_stands score before later after has first second (FilesFault Read file) is = absurd is
-writing_stands score before later after has first second (FilesFault OpenWrite file) is = (is.0, IsCounted-earlier before.faults later.faults after.faults first.faults second.faults is.1, some_design score before has, has)
-writing_stands score before later after has first second (FilesFault Write file) is = (is.0, IsCounted-earlier before.faults later.faults after.faults first.faults second.faults is.1, some_design score before has, has)
-writing_stands score before later after has first second (FilesFault CloseWrite file) is = (is.0, IsCounted-earlier before.faults later.faults after.faults first.faults second.faults is.1, some_design score before has, has)
-writing_stands score before later after has first second Memory is = tt
-writing_stands score before later after has first second (Databases f) is = absurd is
+pub writing_stands : (score : ScoreValues) (before later after : Outside) → HasSomeScore score before → KeepsFiles before later → CountsUp before later → CountsUp later after → (fault : Fault) → IsWritingFault score.output later after fault → StandsIn score before after fault
+writing_stands score before later after has kept first second (Usage usage) is = absurd is
+writing_stands score before later after has kept first second (Source f) is = absurd is
+writing_stands score before later after has kept first second (NoMachine name) is = absurd is
+writing_stands score before later after has kept first second (PointsFault p) is = absurd is
+writing_stands score before later after has kept first second (Dump refusal) is = absurd is
+writing_stands score before later after has kept first second (Contradiction found) is = absurd is
+writing_stands score before later after has kept first second (FilesFault OpenRead file) is = absurd is
+writing_stands score before later after has kept first second (FilesFault Read file) is = absurd is
+writing_stands score before later after has kept first second (FilesFault OpenWrite file) is = (is.0, refused_earlier before later after first second kept OpenWrite file.now is.1, some_design score before has, has)
+writing_stands score before later after has kept first second (FilesFault Write file) is = (is.0, refused_earlier before later after first second kept Write file.now is.1, some_design score before has, has)
+writing_stands score before later after has kept first second (FilesFault CloseWrite file) is = (is.0, refused_earlier before later after first second kept CloseWrite file.now is.1, some_design score before has, has)
+writing_stands score before later after has kept first second Memory is = tt
+writing_stands score before later after has kept first second (Databases f) is = absurd is
 
 -- a fault of writing comes when the output was opened, or might have been
 pub writing_is_late : (name : List ℕ) (before after : Outside) (fault : Fault) → IsWritingFault name before after fault → IsEarly fault → ⊥

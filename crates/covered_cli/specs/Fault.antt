@@ -7,7 +7,7 @@ use Rattle.command_line.specs.LcovWords.{IsLcov, LcovValues, lcov_values}
 use Rattle.command_line.specs.UsageFault.{HasUsageFault, usage_text}
 use Rattle.command_line.specs.declared.command.Command.{Command}
 use Rattle.command_line.specs.declared.command.Command.TheVariants.{Score, Merge, Report, Lcov}
-use Rattle.cov_host.specs.Outside.{Outside, IsCounted}
+use Rattle.cov_host.specs.Outside.{Outside}
 use Rattle.database_commands.specs.Faults.{IsEarly as IsEarlyDatabase, IsMergeFault}
 use Rattle.database_commands.specs.Reporting.{IsReportFault}
 use Rattle.database_commands.specs.Tracing.{IsLcovFault}
@@ -21,7 +21,7 @@ use Rattle.design_model.specs.Design.{Design as Tree}
 use Rattle.covered_cli.specs.Drawing.{IsNoMachineFor, IsNoMachineOf}
 use Rattle.design_points.specs.cover_points.Faults.{IsPointFault}
 use Rattle.whole_files.specs.Call.{call_name}
-use Rattle.whole_files.specs.Effects.{IsMissing}
+use Rattle.whole_files.specs.Refusals.{IsRefused}
 use Rattle.whole_files.specs.declared.call.Call.{Call}
 use Rattle.whole_files.specs.declared.call.Call.TheVariants.{OpenRead, Read, OpenWrite, Write, CloseWrite}
 use Rattle.covered_cli.specs.Contradiction.{contradiction_line}
@@ -67,11 +67,6 @@ abbrev pub NamesFile : ScoreValues → Call → List ℕ → Type 0
 NamesFile score OpenRead file = file ≡ score.dump
 NamesFile score Read file = file ≡ score.dump
 NamesFile score call file = file ≡ score.output
-
--- the call on the file gave nothing: it failed, or the file that was to be read is not there
-abbrev pub IsRefused : Call → List ℕ → Outside → Outside → Type 0
-IsRefused OpenRead file before after = IsCounted before.faults after.faults ⊎ IsMissing file before after
-IsRefused call file before after = IsCounted before.faults after.faults
 
 -- before a call on the output the dump has a score
 abbrev pub IsScoredBefore : Call → ScoreValues → Outside → Type 0

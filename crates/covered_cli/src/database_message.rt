@@ -1,5 +1,5 @@
 ghost use Rattle.std.specs.Prelude.{◌≡◌, ◌++◌, codes, decimal};
-ghost use Rattle.cov_host.specs.Outside.{KeepsFiles};
+ghost use Rattle.cov_host.specs.Outside.{KeepsFiles, KeepsInput, KeepsOutput};
 ghost use Rattle.whole_files.specs.Effects.{CountsUp};
 ghost use Rattle.covered_cli.specs.Databases.{database_line, database_status, kind_text, line_text};
 ghost use Rattle.covered_cli.specs.Effects.{WarnsLine};
@@ -27,6 +27,8 @@ pub(crate) fn warn_database<H: Host>(host: &mut H, fault: &CommandFault<'_>)
     ensures line { WarnsLine (database_line fault.now) (H.outside host.old) (H.outside host.new) }
     ensures printed { (H.outside host.new).printed ≡ (H.outside host.old).printed }
     ensures files { KeepsFiles (H.outside host.old) (H.outside host.new) }
+    ensures input { KeepsInput (H.outside host.old) (H.outside host.new) }
+    ensures output { KeepsOutput (H.outside host.old) (H.outside host.new) }
     ensures counts { CountsUp (H.outside host.old) (H.outside host.new) }
 {
     match fault {
@@ -48,6 +50,8 @@ fn warn_file<'a, H: Host>(host: &mut H, call: &'a str, file: &'a str)
     ensures line { WarnsLine (codes "covered: files: " ++ call.now ++ codes " " ++ file.now ++ codes "\n") (H.outside host.old) (H.outside host.new) }
     ensures printed { (H.outside host.new).printed ≡ (H.outside host.old).printed }
     ensures files { KeepsFiles (H.outside host.old) (H.outside host.new) }
+    ensures input { KeepsInput (H.outside host.old) (H.outside host.new) }
+    ensures output { KeepsOutput (H.outside host.old) (H.outside host.new) }
     ensures counts { CountsUp (H.outside host.old) (H.outside host.new) }
 {
     warn_pieces(
@@ -67,6 +71,8 @@ fn warn_kind<H: Host>(host: &mut H, file: &str, kind: DbKind, line: Option<u32>)
     ensures line { WarnsLine (codes "covered: database: " ++ file.now ++ codes ": " ++ kind_text kind ++ line_text line ++ codes "\n") (H.outside host.old) (H.outside host.new) }
     ensures printed { (H.outside host.new).printed ≡ (H.outside host.old).printed }
     ensures files { KeepsFiles (H.outside host.old) (H.outside host.new) }
+    ensures input { KeepsInput (H.outside host.old) (H.outside host.new) }
+    ensures output { KeepsOutput (H.outside host.old) (H.outside host.new) }
     ensures counts { CountsUp (H.outside host.old) (H.outside host.new) }
 {
     let mut digits = Buffer::new();
@@ -87,6 +93,8 @@ fn warn_fault<'a, H: Host>(
     ensures line { WarnsLine (codes "covered: database: " ++ file.now ++ codes ": " ++ fault.now ++ space.now ++ line.now ++ codes "\n") (H.outside host.old) (H.outside host.new) }
     ensures printed { (H.outside host.new).printed ≡ (H.outside host.old).printed }
     ensures files { KeepsFiles (H.outside host.old) (H.outside host.new) }
+    ensures input { KeepsInput (H.outside host.old) (H.outside host.new) }
+    ensures output { KeepsOutput (H.outside host.old) (H.outside host.new) }
     ensures counts { CountsUp (H.outside host.old) (H.outside host.new) }
 {
     warn_pieces(
@@ -108,6 +116,8 @@ fn warn_difference<H: Host>(host: &mut H, file: &str, line: u32, first: &[u8], o
     ensures line { WarnsLine (codes "covered: database: " ++ file.now ++ codes ": 4 DesignsDiffer " ++ decimal line ++ codes "\n< " ++ first.now ++ codes "\n> " ++ other.now ++ codes "\n") (H.outside host.old) (H.outside host.new) }
     ensures printed { (H.outside host.new).printed ≡ (H.outside host.old).printed }
     ensures files { KeepsFiles (H.outside host.old) (H.outside host.new) }
+    ensures input { KeepsInput (H.outside host.old) (H.outside host.new) }
+    ensures output { KeepsOutput (H.outside host.old) (H.outside host.new) }
     ensures counts { CountsUp (H.outside host.old) (H.outside host.new) }
 {
     let mut digits = Buffer::new();
@@ -125,6 +135,8 @@ fn warn_lines<'a, H: Host>(
     ensures line { WarnsLine (codes "covered: database: " ++ file.now ++ codes ": 4 DesignsDiffer " ++ line.now ++ codes "\n< " ++ first.now ++ codes "\n> " ++ other.now ++ codes "\n") (H.outside host.old) (H.outside host.new) }
     ensures printed { (H.outside host.new).printed ≡ (H.outside host.old).printed }
     ensures files { KeepsFiles (H.outside host.old) (H.outside host.new) }
+    ensures input { KeepsInput (H.outside host.old) (H.outside host.new) }
+    ensures output { KeepsOutput (H.outside host.old) (H.outside host.new) }
     ensures counts { CountsUp (H.outside host.old) (H.outside host.new) }
 {
     warn_pieces(

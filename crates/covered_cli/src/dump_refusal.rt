@@ -1,5 +1,5 @@
 ghost use Rattle.std.specs.Prelude.{◌≡◌, ◌++◌, codes, decimal};
-ghost use Rattle.cov_host.specs.Outside.{KeepsFiles};
+ghost use Rattle.cov_host.specs.Outside.{KeepsFiles, KeepsInput, KeepsOutput};
 ghost use Rattle.whole_files.specs.Effects.{CountsUp};
 ghost use Rattle.covered_cli.specs.DumpRefusal.{kind_text, refusal_line};
 ghost use Rattle.covered_cli.specs.Effects.{WarnsLine};
@@ -27,6 +27,8 @@ pub(crate) fn warn_refusal<H: Host>(host: &mut H, refusal: &DumpRefusal<'_>)
     ensures line { WarnsLine (refusal_line refusal.now) (H.outside host.old) (H.outside host.new) }
     ensures printed { (H.outside host.new).printed ≡ (H.outside host.old).printed }
     ensures files { KeepsFiles (H.outside host.old) (H.outside host.new) }
+    ensures input { KeepsInput (H.outside host.old) (H.outside host.new) }
+    ensures output { KeepsOutput (H.outside host.old) (H.outside host.new) }
     ensures counts { CountsUp (H.outside host.old) (H.outside host.new) }
 {
     match refusal {
@@ -44,6 +46,8 @@ fn warn_instance<H: Host>(host: &mut H, path: &str)
     ensures line { WarnsLine (codes "covered: dump: bind 1 NoInstance " ++ path.now ++ codes "\n") (H.outside host.old) (H.outside host.new) }
     ensures printed { (H.outside host.new).printed ≡ (H.outside host.old).printed }
     ensures files { KeepsFiles (H.outside host.old) (H.outside host.new) }
+    ensures input { KeepsInput (H.outside host.old) (H.outside host.new) }
+    ensures output { KeepsOutput (H.outside host.old) (H.outside host.new) }
     ensures counts { CountsUp (H.outside host.old) (H.outside host.new) }
 {
     warn_pieces(
@@ -61,6 +65,8 @@ fn warn_signal<'a, H: Host>(host: &mut H, fault: &'a str, path: &'a [u8])
     ensures line { WarnsLine (codes "covered: dump: bind " ++ fault.now ++ path.now ++ codes "\n") (H.outside host.old) (H.outside host.new) }
     ensures printed { (H.outside host.new).printed ≡ (H.outside host.old).printed }
     ensures files { KeepsFiles (H.outside host.old) (H.outside host.new) }
+    ensures input { KeepsInput (H.outside host.old) (H.outside host.new) }
+    ensures output { KeepsOutput (H.outside host.old) (H.outside host.new) }
     ensures counts { CountsUp (H.outside host.old) (H.outside host.new) }
 {
     warn_pieces(
@@ -79,6 +85,8 @@ fn warn_fault<H: Host>(host: &mut H, kind: DumpKind, byte: u64)
     ensures line { WarnsLine (codes "covered: dump: " ++ kind_text kind ++ codes " at byte " ++ decimal byte ++ codes "\n") (H.outside host.old) (H.outside host.new) }
     ensures printed { (H.outside host.new).printed ≡ (H.outside host.old).printed }
     ensures files { KeepsFiles (H.outside host.old) (H.outside host.new) }
+    ensures input { KeepsInput (H.outside host.old) (H.outside host.new) }
+    ensures output { KeepsOutput (H.outside host.old) (H.outside host.new) }
     ensures counts { CountsUp (H.outside host.old) (H.outside host.new) }
 {
     let mut digits = Buffer::new();

@@ -1,5 +1,5 @@
 ghost use Rattle.std.specs.Prelude.{◌≡◌, ◌++◌, codes};
-ghost use Rattle.cov_host.specs.Outside.{KeepsFiles};
+ghost use Rattle.cov_host.specs.Outside.{KeepsFiles, KeepsInput, KeepsOutput};
 ghost use Rattle.whole_files.specs.Effects.{CountsUp};
 ghost use Rattle.covered_cli.specs.Effects.{WarnsLine};
 ghost use Rattle.covered_cli.specs.PointsMessage.{points_line, points_status};
@@ -27,6 +27,8 @@ pub(crate) fn warn_points<H: Host>(host: &mut H, fault: &PointFault)
     ensures line { WarnsLine (points_line fault.now) (H.outside host.old) (H.outside host.new) }
     ensures printed { (H.outside host.new).printed ≡ (H.outside host.old).printed }
     ensures files { KeepsFiles (H.outside host.old) (H.outside host.new) }
+    ensures input { KeepsInput (H.outside host.old) (H.outside host.new) }
+    ensures output { KeepsOutput (H.outside host.old) (H.outside host.new) }
     ensures counts { CountsUp (H.outside host.old) (H.outside host.new) }
 {
     match fault {
@@ -48,6 +50,8 @@ fn warn_named<'a, H: Host>(host: &mut H, fault: &'a str, name: &'a [u8])
     ensures line { WarnsLine (codes "covered: source: points " ++ fault.now ++ name.now ++ codes "\n") (H.outside host.old) (H.outside host.new) }
     ensures printed { (H.outside host.new).printed ≡ (H.outside host.old).printed }
     ensures files { KeepsFiles (H.outside host.old) (H.outside host.new) }
+    ensures input { KeepsInput (H.outside host.old) (H.outside host.new) }
+    ensures output { KeepsOutput (H.outside host.old) (H.outside host.new) }
     ensures counts { CountsUp (H.outside host.old) (H.outside host.new) }
 {
     warn_pieces(

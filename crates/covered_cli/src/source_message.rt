@@ -1,5 +1,5 @@
 ghost use Rattle.std.specs.Prelude.{◌≡◌, ◌++◌, codes, decimal};
-ghost use Rattle.cov_host.specs.Outside.{KeepsFiles};
+ghost use Rattle.cov_host.specs.Outside.{KeepsFiles, KeepsInput, KeepsOutput};
 ghost use Rattle.whole_files.specs.Effects.{CountsUp};
 ghost use Rattle.covered_cli.specs.Effects.{WarnsLine};
 ghost use Rattle.covered_cli.specs.SourceMessage.{const_text, elab_text, kind_text, lex_text, parse_text, refusal_line, source_line, source_status, spot_text};
@@ -30,6 +30,8 @@ pub(crate) fn warn_source<H: Host>(host: &mut H, fault: &SourceFault<'_>)
     ensures line { WarnsLine (source_line fault.now) (H.outside host.old) (H.outside host.new) }
     ensures printed { (H.outside host.new).printed ≡ (H.outside host.old).printed }
     ensures files { KeepsFiles (H.outside host.old) (H.outside host.new) }
+    ensures input { KeepsInput (H.outside host.old) (H.outside host.new) }
+    ensures output { KeepsOutput (H.outside host.old) (H.outside host.new) }
     ensures counts { CountsUp (H.outside host.old) (H.outside host.new) }
 {
     match fault {
@@ -45,6 +47,8 @@ fn warn_file<'a, H: Host>(host: &mut H, call: &'a str, file: &'a [u8])
     ensures line { WarnsLine (codes "covered: files: " ++ call.now ++ codes " " ++ file.now ++ codes "\n") (H.outside host.old) (H.outside host.new) }
     ensures printed { (H.outside host.new).printed ≡ (H.outside host.old).printed }
     ensures files { KeepsFiles (H.outside host.old) (H.outside host.new) }
+    ensures input { KeepsInput (H.outside host.old) (H.outside host.new) }
+    ensures output { KeepsOutput (H.outside host.old) (H.outside host.new) }
     ensures counts { CountsUp (H.outside host.old) (H.outside host.new) }
 {
     warn_pieces(
@@ -64,6 +68,8 @@ fn warn_refused<H: Host>(host: &mut H, refusal: &SourceRefusal)
     ensures line { WarnsLine (refusal_line refusal.now) (H.outside host.old) (H.outside host.new) }
     ensures printed { (H.outside host.new).printed ≡ (H.outside host.old).printed }
     ensures files { KeepsFiles (H.outside host.old) (H.outside host.new) }
+    ensures input { KeepsInput (H.outside host.old) (H.outside host.new) }
+    ensures output { KeepsOutput (H.outside host.old) (H.outside host.new) }
     ensures counts { CountsUp (H.outside host.old) (H.outside host.new) }
 {
     let kind = text_of(refusal.kind);
@@ -84,6 +90,8 @@ fn warn_at<'a, H: Host>(
     ensures line { WarnsLine (codes "covered: source: " ++ kind.now ++ space.now ++ detail.now ++ spot_text spot.now ++ codes "\n") (H.outside host.old) (H.outside host.new) }
     ensures printed { (H.outside host.new).printed ≡ (H.outside host.old).printed }
     ensures files { KeepsFiles (H.outside host.old) (H.outside host.new) }
+    ensures input { KeepsInput (H.outside host.old) (H.outside host.new) }
+    ensures output { KeepsOutput (H.outside host.old) (H.outside host.new) }
     ensures counts { CountsUp (H.outside host.old) (H.outside host.new) }
 {
     match spot {
@@ -97,6 +105,8 @@ fn warn_parts<'a, H: Host>(host: &mut H, kind: &'a str, space: &'a str, detail: 
     ensures line { WarnsLine (codes "covered: source: " ++ kind.now ++ space.now ++ detail.now ++ codes "\n") (H.outside host.old) (H.outside host.new) }
     ensures printed { (H.outside host.new).printed ≡ (H.outside host.old).printed }
     ensures files { KeepsFiles (H.outside host.old) (H.outside host.new) }
+    ensures input { KeepsInput (H.outside host.old) (H.outside host.new) }
+    ensures output { KeepsOutput (H.outside host.old) (H.outside host.new) }
     ensures counts { CountsUp (H.outside host.old) (H.outside host.new) }
 {
     warn_pieces(
@@ -122,6 +132,8 @@ fn warn_spot<'a, H: Host>(
     ensures line { WarnsLine (codes "covered: source: " ++ kind.now ++ space.now ++ detail.now ++ codes " at " ++ spot.now.file ++ codes ":" ++ decimal spot.now.line ++ codes ":" ++ decimal spot.now.column ++ codes "\n") (H.outside host.old) (H.outside host.new) }
     ensures printed { (H.outside host.new).printed ≡ (H.outside host.old).printed }
     ensures files { KeepsFiles (H.outside host.old) (H.outside host.new) }
+    ensures input { KeepsInput (H.outside host.old) (H.outside host.new) }
+    ensures output { KeepsOutput (H.outside host.old) (H.outside host.new) }
     ensures counts { CountsUp (H.outside host.old) (H.outside host.new) }
 {
     let mut line = Buffer::new();

@@ -143,7 +143,7 @@ returns-clause-fault g c =
     let machines = machines_are score _ _ _ c.in_ok-states.ensures.named c.in_ok-states.ensures.drawn c.draw_machines.ensures.named c.in_ok-draw_machines.ensures.drawn c.in_ok-draw_machines.ensures.placed in
     let has = has_listed score before read.sources _ _ _ machines read.gathered read.stands c.in_ok-points.ensures.points in
     let scored = text_is_scored score read.sources _ _ _ _ before middle has read.names effects.files (db.scored _ c.in_ok-points.ensures.points) c.in_ok-text.ensures.text in
-    IfErr-map c.write.result (writing_stands score before later after (c.in_ok-text.text, scored) counts c.write.ensures.counts) c.write.ensures.fault
+    IfErr-map c.write.result (writing_stands score before later after (c.in_ok-text.text, scored) (KeepsFiles-trans before middle later effects.files db.effects.files) counts c.write.ensures.counts) c.write.ensures.fault
 
 pub returns-clause-early : goal.returns-clause-early
 returns-clause-early g c =

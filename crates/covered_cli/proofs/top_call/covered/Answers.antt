@@ -75,7 +75,7 @@ returns-in-Err-clause-warned g c above =
     let before = g.H.Host.outside c.args.host.now in
     let middle = g.H.Host.outside c.run.new.host in
     let after = g.H.Host.outside c.warn_of.new.host in
-    (c.in-Err.fault, sym c.status.ensures, stands_later before middle after c.run.ensures.counts c.warn_of.ensures.counts c.args.words.now c.in-Err.fault c.in-Err.ensures.fault, λ early. all_later before middle after (c.in-Err.ensures.early early, c.in-Err.ensures.unprinted early) c.warn_of.ensures.files c.warn_of.ensures.printed, WarnsLine-since _ before middle after c.run.ensures.warned c.run.ensures.counts c.warn_of.ensures.counts c.warn_of.ensures.line)
+    (c.in-Err.fault, sym c.status.ensures, stands_later before middle after c.run.ensures.counts c.warn_of.ensures.counts c.warn_of.ensures.files c.warn_of.ensures.input c.warn_of.ensures.output c.args.words.now c.in-Err.fault c.in-Err.ensures.fault, λ early. all_later before middle after (c.in-Err.ensures.early early, c.in-Err.ensures.unprinted early) c.warn_of.ensures.files c.warn_of.ensures.printed, WarnsLine-since _ before middle after c.run.ensures.warned c.run.ensures.counts c.warn_of.ensures.counts c.warn_of.ensures.line)
 
 pub returns-in-Err-clause-others : goal.returns-in-Err-clause-others
 returns-in-Err-clause-others g c =
