@@ -1,11 +1,12 @@
 ghost use Rattle.std.specs.Prelude.{◌≡◌, ◌≢◌, ◌↔◌, IfErr, OnErr, OnOk};
 ghost use Rattle.command_line.specs.Command.{command_values};
-ghost use Rattle.cov_host.specs.Outside.{KeepsFiles, Told};
+ghost use Rattle.cov_host.specs.Outside.{KeepsFiles, KeepsInput, KeepsOutput, Told};
 ghost use Rattle.database_commands.specs.Reporting.{KeepsUnlessNamed, LeavesFront, PrintsIfUnnamed};
 ghost use Rattle.whole_files.specs.Effects.{CountsUp};
 ghost use Rattle.covered_cli.specs.Complete.{EndsWith, HasBadDump, HasBadSource, HasUnboundDump, IsCommandWith, IsGoodScore, LacksPoints, NoFaults, RefusesBinding, RefusesDump, RefusesPoints};
 ghost use Rattle.covered_cli.specs.Covered.{HasContradiction, HasDatabaseCause, HasEarlyStatus, HasFilesCause, HasGoodDatabases, IsNoCommand, IsSomeCommand, KeepsUnnamed, Leaves, PrintsReport, WarnsFault};
-ghost use Rattle.covered_cli.specs.Fault.{HasForms, IsEarly, Stands, StandsInWork, output_of};
+ghost use Rattle.covered_cli.specs.Effects.{WarnsLine};
+ghost use Rattle.covered_cli.specs.Fault.{HasForms, IsEarly, Stands, StandsInWork, line_of, output_of, status_of};
 ghost use Rattle.covered_cli.specs.Scoring.{IsDone, IsDoneWork, IsTextOf};
 
 use crate::Status;
@@ -61,11 +62,22 @@ pub fn covered<H: Host>(alloc: Global, words: &Words, host: &mut H) -> Status
 {
     match run(alloc, words, host) {
         Ok(()) => Status::Done,
-        Err(fault) => {
-            warn_of(host, &fault);
-            fault.status()
-        }
+        Err(fault) => tell(host, &fault),
     }
+}
+
+/// Warns of a fault by its line, and ends with its status, also where the host refuses the warning.
+fn tell<H: Host>(host: &mut H, fault: &Fault<'_>) -> Status
+    ensures status { result ≡ status_of fault.now }
+    ensures line { WarnsLine (line_of fault.now) (H.outside host.old) (H.outside host.new) }
+    ensures printed { (H.outside host.new).printed ≡ (H.outside host.old).printed }
+    ensures files { KeepsFiles (H.outside host.old) (H.outside host.new) }
+    ensures input { KeepsInput (H.outside host.old) (H.outside host.new) }
+    ensures output { KeepsOutput (H.outside host.old) (H.outside host.new) }
+    ensures counts { CountsUp (H.outside host.old) (H.outside host.new) }
+{
+    warn_of(host, fault);
+    fault.status()
 }
 
 /// Reads the command and does it.

@@ -11,7 +11,7 @@ pub returns-in-Ok-clause-usage : goal.returns-in-Ok-clause-usage
 returns-in-Ok-clause-usage g c = (λ same. cc, λ none. absurd (command_or_fault _ c.in-Ok.ensures.command none))
 
 pub returns-in-Err-clause-usage : goal.returns-in-Err-clause-usage
-returns-in-Err-clause-usage g c = rw c.status.ensures (usage_exactly _ _ _ _ c.in-Err.ensures.fault)
+returns-in-Err-clause-usage g c = rw c.tell.ensures.status (usage_exactly _ _ _ _ c.in-Err.ensures.fault)
 
 pub returns-in-Ok-clause-source : goal.returns-in-Ok-clause-source
 returns-in-Ok-clause-source g c bad none = absurd (bad_source_not_done _ _ _ c.in-Ok.ensures.done bad)
@@ -26,8 +26,8 @@ pub returns-in-Err-clause-points : goal.returns-in-Err-clause-points
 returns-in-Err-clause-points g c large none =
     let before = g.H.Host.outside c.args.host.now in
     let middle = g.H.Host.outside c.run.new.host in
-    let after = g.H.Host.outside c.warn_of.new.host in
-    rw c.status.ensures (points_end c.args.words.now before middle after c.run.ensures.counts c.warn_of.ensures.counts none c.in-Err.fault c.in-Err.ensures.fault large (WarnsLine-since _ before middle after c.run.ensures.warned c.run.ensures.counts c.warn_of.ensures.counts c.warn_of.ensures.line))
+    let after = g.H.Host.outside c.tell.new.host in
+    rw c.tell.ensures.status (points_end c.args.words.now before middle after c.run.ensures.counts c.tell.ensures.counts none c.in-Err.fault c.in-Err.ensures.fault large (WarnsLine-since _ before middle after c.run.ensures.warned c.run.ensures.counts c.tell.ensures.counts c.tell.ensures.line))
 
 pub returns-in-Ok-clause-unbound : goal.returns-in-Ok-clause-unbound
 returns-in-Ok-clause-unbound g c unbound none = absurd (unbound_not_done _ _ _ c.in-Ok.ensures.done unbound)
@@ -36,57 +36,57 @@ pub returns-in-Err-clause-unbound : goal.returns-in-Err-clause-unbound
 returns-in-Err-clause-unbound g c unbound none =
     let before = g.H.Host.outside c.args.host.now in
     let middle = g.H.Host.outside c.run.new.host in
-    let after = g.H.Host.outside c.warn_of.new.host in
-    rw c.status.ensures (unbound_ends c.args.words.now before middle after c.run.ensures.counts c.warn_of.ensures.counts none c.in-Err.fault c.in-Err.ensures.fault unbound (WarnsLine-since _ before middle after c.run.ensures.warned c.run.ensures.counts c.warn_of.ensures.counts c.warn_of.ensures.line))
+    let after = g.H.Host.outside c.tell.new.host in
+    rw c.tell.ensures.status (unbound_ends c.args.words.now before middle after c.run.ensures.counts c.tell.ensures.counts none c.in-Err.fault c.in-Err.ensures.fault unbound (WarnsLine-since _ before middle after c.run.ensures.warned c.run.ensures.counts c.tell.ensures.counts c.tell.ensures.line))
 
 pub returns-in-Err-clause-complete : goal.returns-in-Err-clause-complete
-returns-in-Err-clause-complete g c good none = rw c.status.ensures (good_ends _ _ _ _ c.run.ensures.counts c.warn_of.ensures.counts none _ c.in-Err.ensures.fault good)
+returns-in-Err-clause-complete g c good none = rw c.tell.ensures.status (good_ends _ _ _ _ c.run.ensures.counts c.tell.ensures.counts none _ c.in-Err.ensures.fault good)
 
 pub returns-in-Err-clause-source : goal.returns-in-Err-clause-source
-returns-in-Err-clause-source g c bad none = rw c.status.ensures (bad_source_ends _ _ _ _ c.run.ensures.counts c.warn_of.ensures.counts none _ c.in-Err.ensures.fault bad)
+returns-in-Err-clause-source g c bad none = rw c.tell.ensures.status (bad_source_ends _ _ _ _ c.run.ensures.counts c.tell.ensures.counts none _ c.in-Err.ensures.fault bad)
 
 pub returns-in-Err-clause-dump : goal.returns-in-Err-clause-dump
-returns-in-Err-clause-dump g c bad none = rw c.status.ensures (bad_dump_ends _ _ _ _ c.run.ensures.counts c.warn_of.ensures.counts none _ c.in-Err.ensures.fault bad)
+returns-in-Err-clause-dump g c bad none = rw c.tell.ensures.status (bad_dump_ends _ _ _ _ c.run.ensures.counts c.tell.ensures.counts none _ c.in-Err.ensures.fault bad)
 
 pub returns-in-Err-clause-databases : goal.returns-in-Err-clause-databases
-returns-in-Err-clause-databases g c good none = rw c.status.ensures (good_databases_end c.args.alloc _ _ _ _ c.run.ensures.counts c.warn_of.ensures.counts none _ c.in-Err.ensures.fault good)
+returns-in-Err-clause-databases g c good none = rw c.tell.ensures.status (good_databases_end c.args.alloc _ _ _ _ c.run.ensures.counts c.tell.ensures.counts none _ c.in-Err.ensures.fault good)
 
 pub returns-in-Err-clause-files : goal.returns-in-Err-clause-files
-returns-in-Err-clause-files g c is = files_cause _ _ _ _ c.run.ensures.counts c.warn_of.ensures.counts _ c.in-Err.ensures.fault (rw c.status.ensures at is)
+returns-in-Err-clause-files g c is = files_cause _ _ _ _ c.run.ensures.counts c.tell.ensures.counts _ c.in-Err.ensures.fault (rw c.tell.ensures.status at is)
 
 pub returns-in-Err-clause-contradiction : goal.returns-in-Err-clause-contradiction
-returns-in-Err-clause-contradiction g c is = contradiction_cause _ _ _ _ c.in-Err.ensures.fault (rw c.status.ensures at is)
+returns-in-Err-clause-contradiction g c is = contradiction_cause _ _ _ _ c.in-Err.ensures.fault (rw c.tell.ensures.status at is)
 
 pub returns-in-Err-clause-database : goal.returns-in-Err-clause-database
-returns-in-Err-clause-database g c is = database_cause _ _ _ _ c.in-Err.ensures.fault (rw c.status.ensures at is)
+returns-in-Err-clause-database g c is = database_cause _ _ _ _ c.in-Err.ensures.fault (rw c.tell.ensures.status at is)
 
 pub returns-in-Err-clause-kept : goal.returns-in-Err-clause-kept
 returns-in-Err-clause-kept g c early =
     let before = g.H.Host.outside c.args.host.now in
     let middle = g.H.Host.outside c.run.new.host in
-    let after = g.H.Host.outside c.warn_of.new.host in
-    KeepsFiles-trans before middle after (c.in-Err.ensures.early (early_status _ (rw c.status.ensures at early))) c.warn_of.ensures.files
+    let after = g.H.Host.outside c.tell.new.host in
+    KeepsFiles-trans before middle after (c.in-Err.ensures.early (early_status _ (rw c.tell.ensures.status at early))) c.tell.ensures.files
 
 pub returns-in-Err-clause-unprinted : goal.returns-in-Err-clause-unprinted
-returns-in-Err-clause-unprinted g c early = c.warn_of.ensures.printed ∙ c.in-Err.ensures.unprinted (early_status _ (rw c.status.ensures at early))
+returns-in-Err-clause-unprinted g c early = c.tell.ensures.printed ∙ c.in-Err.ensures.unprinted (early_status _ (rw c.tell.ensures.status at early))
 
 pub returns-in-Err-clause-warned : goal.returns-in-Err-clause-warned
 returns-in-Err-clause-warned g c above =
     let before = g.H.Host.outside c.args.host.now in
     let middle = g.H.Host.outside c.run.new.host in
-    let after = g.H.Host.outside c.warn_of.new.host in
-    (c.in-Err.fault, sym c.status.ensures, stands_later before middle after c.run.ensures.counts c.warn_of.ensures.counts c.warn_of.ensures.files c.warn_of.ensures.input c.warn_of.ensures.output c.args.words.now c.in-Err.fault c.in-Err.ensures.fault, λ early. all_later before middle after (c.in-Err.ensures.early early, c.in-Err.ensures.unprinted early) c.warn_of.ensures.files c.warn_of.ensures.printed, WarnsLine-since _ before middle after c.run.ensures.warned c.run.ensures.counts c.warn_of.ensures.counts c.warn_of.ensures.line)
+    let after = g.H.Host.outside c.tell.new.host in
+    (c.in-Err.fault, sym c.tell.ensures.status, stands_later before middle after c.run.ensures.counts c.tell.ensures.counts c.tell.ensures.files c.tell.ensures.input c.tell.ensures.output c.args.words.now c.in-Err.fault c.in-Err.ensures.fault, λ early. all_later before middle after (c.in-Err.ensures.early early, c.in-Err.ensures.unprinted early) c.tell.ensures.files c.tell.ensures.printed, WarnsLine-since _ before middle after c.run.ensures.warned c.run.ensures.counts c.tell.ensures.counts c.tell.ensures.line)
 
 pub returns-in-Err-clause-others : goal.returns-in-Err-clause-others
 returns-in-Err-clause-others g c =
     let before = g.H.Host.outside c.args.host.now in
     let middle = g.H.Host.outside c.run.new.host in
-    let after = g.H.Host.outside c.warn_of.new.host in
-    Told-trans before.files middle.files after.files (λ old between new first second name unnamed. second name ∙ first name unnamed) c.run.ensures.others c.warn_of.ensures.files
+    let after = g.H.Host.outside c.tell.new.host in
+    Told-trans before.files middle.files after.files (λ old between new first second name unnamed. second name ∙ first name unnamed) c.run.ensures.others c.tell.ensures.files
 
 pub returns-in-Err-clause-left : goal.returns-in-Err-clause-left
 returns-in-Err-clause-left g c above =
     let before = g.H.Host.outside c.args.host.now in
     let middle = g.H.Host.outside c.run.new.host in
-    let after = g.H.Host.outside c.warn_of.new.host in
-    left_later c.args.words.now before middle after c.in-Err.ensures.left c.warn_of.ensures.files c.warn_of.ensures.printed
+    let after = g.H.Host.outside c.tell.new.host in
+    left_later c.args.words.now before middle after c.in-Err.ensures.left c.tell.ensures.files c.tell.ensures.printed
