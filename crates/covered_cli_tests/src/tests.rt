@@ -262,3 +262,72 @@ fn scores_and_refuses_an_assignment(rt: HostRuntime) {
 fn joins_and_reports_databases(rt: HostRuntime) {
     assert!(rt; all_end(rt.alloc(), DATABASES));
 }
+
+/// A command of which one call of the host fails, by its number: the status that it ends with, and what it warns.
+struct Failing {
+    words: &'static [&'static str],
+    files: &'static [File],
+    call: u64,
+    status: Status,
+    warned: &'static str,
+}
+
+/// Each call of a score, a merge and a report in turn. A warning that is refused leaves the status.
+#[rattlefmt::skip]
+const FAILING: &[Failing] = &[
+    Failing { words: SCORE, files: &[("pads.v", SOURCE), ("D", DUMP)], call: 1, status: Status::Files, warned: "covered: files: open_read pads.v\n" },
+    Failing { words: SCORE, files: &[("pads.v", SOURCE), ("D", DUMP)], call: 2, status: Status::Files, warned: "covered: files: read pads.v\n" },
+    Failing { words: SCORE, files: &[("pads.v", SOURCE), ("D", DUMP)], call: 3, status: Status::Files, warned: "covered: files: read pads.v\n" },
+    Failing { words: SCORE, files: &[("pads.v", SOURCE), ("D", DUMP)], call: 4, status: Status::Files, warned: "covered: files: open_read D\n" },
+    Failing { words: SCORE, files: &[("pads.v", SOURCE), ("D", DUMP)], call: 5, status: Status::Files, warned: "covered: files: read D\n" },
+    Failing { words: SCORE, files: &[("pads.v", SOURCE), ("D", DUMP)], call: 6, status: Status::Files, warned: "covered: files: read D\n" },
+    Failing { words: SCORE, files: &[("pads.v", SOURCE), ("D", DUMP)], call: 7, status: Status::Files, warned: "covered: files: open_write B\n" },
+    Failing { words: SCORE, files: &[("pads.v", SOURCE), ("D", DUMP)], call: 8, status: Status::Files, warned: "covered: files: write B\n" },
+    Failing { words: SCORE, files: &[("pads.v", SOURCE), ("D", DUMP)], call: 9, status: Status::Files, warned: "covered: files: close_write B\n" },
+    Failing { words: SCORE, files: &[("pads.v", SOURCE), ("D", DUMP)], call: 10, status: Status::Done, warned: "" },
+    Failing { words: INCLUDING, files: &[A, PADS, ("D", DUMP), PORTS], call: 7, status: Status::Files, warned: "covered: files: open_read inc/ports.vh\n" },
+    Failing { words: INCLUDING, files: &[A, PADS, ("D", DUMP), PORTS], call: 8, status: Status::Files, warned: "covered: files: read inc/ports.vh\n" },
+    Failing { words: &["merge", "-o", "m.db", "t2.db", "t1.db"], files: TABLES, call: 1, status: Status::Files, warned: "covered: files: open_read t2.db\n" },
+    Failing { words: &["merge", "-o", "m.db", "t2.db", "t1.db"], files: TABLES, call: 4, status: Status::Files, warned: "covered: files: open_read t1.db\n" },
+    Failing { words: &["merge", "-o", "m.db", "t2.db", "t1.db"], files: TABLES, call: 5, status: Status::Files, warned: "covered: files: read t1.db\n" },
+    Failing { words: &["merge", "-o", "m.db", "t2.db", "t1.db"], files: TABLES, call: 7, status: Status::Files, warned: "covered: files: open_write m.db\n" },
+    Failing { words: &["report", "t1.db"], files: TABLES, call: 4, status: Status::Files, warned: "covered: files: print -\n" },
+    Failing { words: &["score", "-t"], files: &[], call: 1, status: Status::Usage, warned: "" },
+    Failing { words: &["report", "t9.db"], files: TABLES, call: 2, status: Status::Files, warned: "" },
+    Failing { words: SCORE_M, files: &[("m.v", "module m(input a);\n")], call: 4, status: Status::Source, warned: "" },
+];
+
+/// A host with the files of the case, of which one call fails.
+fn failing_host(alloc: Global, case: &Failing) -> Result<MemoryHost, NoMemory> {
+    let mut failing = Calls::new(alloc);
+    failing.push(case.call)?;
+    let mut host = MemoryHost::new(alloc, failing)?;
+    for (name, text) in case.files {
+        host.put(name, text.as_bytes())?;
+    }
+    Ok(host)
+}
+
+/// The words of a case of which a call fails.
+fn failing_words(alloc: Global, case: &Failing) -> Result<Words, NoMemory> {
+    let mut words = Words::new(alloc);
+    for word in case.words {
+        words.push(word)?;
+    }
+    Ok(words)
+}
+
+/// Whether the command ends as the case says.
+fn fails(alloc: Global, case: &Failing) -> bool {
+    let (Ok(words), Ok(mut host)) = (failing_words(alloc, case), failing_host(alloc, case)) else {
+        return false;
+    };
+    covered(alloc, &words, &mut host) == case.status && host.warned() == case.warned.as_bytes()
+}
+
+#[test]
+fn each_failing_call_tells_its_own_name(rt: HostRuntime) {
+    for case in FAILING {
+        assert!(rt; fails(rt.alloc(), case));
+    }
+}
