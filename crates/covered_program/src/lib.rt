@@ -12,9 +12,10 @@ use covered_cli::{Status, covered};
 use std::env;
 use std::io::{self, ErrorKind};
 use std::process::ExitCode;
+use std::rt::Runtime;
 
 /// Does what the words of the command line say, and ends with the status of that.
-pub fn run(rt: HostRuntime) -> ExitCode {
+pub fn run<R: Runtime + AllocGlobal>(rt: R) -> ExitCode {
     let alloc = rt.alloc();
     let mut words = Words::new(alloc);
     let arguments = match env::args(&rt) {
