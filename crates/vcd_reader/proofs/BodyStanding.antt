@@ -153,7 +153,7 @@ space_said f old new text space b says white s reads room codes at word going =
 
 -- a fault directly behind the text
 behind_text : (text word : List ℕ) (byte : ℕ) (b : Body) (f : DumpFault) → Stands text (body b) word → HasFault (text ++ byte ∷ []) f → IsBehind (text ++ byte ∷ []) b f
-behind_text text word byte b f stands fault = record { before = text; byte = byte; rest = []; now = record { last = b; word = word; stands = stands; items = refl; vars = refl }; split = refl; fault = fault }
+behind_text text word byte b f stands found = record { before = text; byte = byte; rest = []; now = record { last = b; word = word; stands = stands; items = refl; vars = refl }; split = refl; fault = found }
 
 pub space_fault : (f : Filter) (old : BodyReader) (text : List ℕ) (space : ℕ) (b : Body) (kept : ReadingRow) (found : DumpFault) → is_white_space space ≡ true → BodyStands old text b → Reads f old (Err found) kept → IsBehind (text ++ space ∷ []) b found
 space_fault f old text space b kept found white s reads =
