@@ -1,5 +1,5 @@
 -- What a text says before its first fault.
-use Rattle.std.proofs.Common.{◌≡◌, ℕ, List, [], ◌∷◌, ◌++◌, length, sym, ap, subst, ◌∙◌, append_assoc, append-nil, inl, inr}
+use Rattle.std.proofs.Common.{◌≡◌, ℕ, true, List, [], ◌∷◌, ◌++◌, length, sym, ap, subst, ◌∙◌, append_assoc, append-nil, inl, inr}
 use Rattle.vcd_reader.specs.BodyStanding.{IsBehind, SaysNow}
 use Rattle.vcd_reader.specs.Dump.{BeginsAs, GoesOn, SaysBody}
 use Rattle.vcd_reader.specs.Reading.{Body, Meaning, body, meaning_after, meaning_of}
