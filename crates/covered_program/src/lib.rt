@@ -10,12 +10,12 @@ ghost use Rattle.std.specs.IoError.{error_kind};
 use cov_host::{FileHost, Words};
 use covered_cli::{Status, covered};
 use std::env;
-use std::io::{self, ErrorKind};
+use std::io::{self, ErrorKind, Print};
 use std::process::ExitCode;
 use std::rt::Runtime;
 
-/// Does what the words of the command line say, and ends with the status of that.
-pub fn run<R: Runtime + AllocGlobal>(rt: R) -> ExitCode {
+/// Does what the words of the command line say, and ends with the status of that. Warnings go to the second stream.
+pub fn run<R: Runtime + AllocGlobal, E: Print + Drop>(rt: R, warnings: E) -> ExitCode {
     let alloc = rt.alloc();
     let mut words = Words::new(alloc);
     let arguments = match env::args(&rt) {
@@ -27,7 +27,7 @@ pub fn run<R: Runtime + AllocGlobal>(rt: R) -> ExitCode {
             return ExitCode::from(Status::Memory.code());
         }
     }
-    let mut host = FileHost::new(rt, alloc);
+    let mut host = FileHost::new(rt, warnings, alloc);
     ExitCode::from(covered(alloc, &words, &mut host).code())
 }
 

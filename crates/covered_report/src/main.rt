@@ -5,5 +5,6 @@ use covered_program::run;
 use std::process::ExitCode;
 
 fn main(rt: HostRuntime) -> ExitCode {
-    run(rt)
+    let warnings = rt.stderr();
+    run(rt, warnings)
 }
