@@ -159,6 +159,7 @@ score_is_done score sources names text design db before middle later after has a
       listed = scored.score.table.listed;
       sound = scored.score.table.sound;
       reasoned = scored.score.table.reasoned;
+      windows = scored.score.table.windows;
     };
     is_text = is_text;
   };
