@@ -23,7 +23,7 @@ const DUMP: &str =
     "$scope module tb $end\n$scope module dut $end\n$var wire 1 ! clk $end\n$var wire 2 \" a $end\n$upscope $end\n$upscope $end\n$enddefinitions $end\n#0\n0!\nb00 \"\n#5\n1!\nb01 \"\n#10\n0!\nb1x \"\n#15\n1!\n";
 
 const DATABASE: &str =
-    "covered-db 1\ntop pads\nsource 1 pads.v\ninstance pads pads\npoints 6\nt pads a 0 01 = hit\nt pads a 0 10 = missed\nt pads a 1 01 = hit\nt pads a 1 10 = missed\nt pads clk - 01 = hit\nt pads clk - 10 = hit\nend\n";
+    "covered-db 2\ntop pads\nsource 1 pads.v\ninstance pads pads\npoints 6\nt pads a 0 01 = hit\nt pads a 0 10 = missed\nt pads a 1 01 = hit\nt pads a 1 10 = missed\nt pads clk - 01 = hit\nt pads clk - 10 = hit\nwindows 1\nwindow 0 15\nend\n";
 
 /// A dump as a simulator writes it, with a real variable, a parameter, groups and a comment in the body.
 const REALISTIC: &str =
@@ -39,11 +39,11 @@ const TIME_BACK: &str =
 
 /// The database of the same module, from files that one of them includes.
 const INCLUDED: &str =
-    "covered-db 1\ntop pads\nsource 1 a.v\nsource 2 pads.v\nsource 3 ports.vh\ninstance pads pads\npoints 6\nt pads a 0 01 = hit\nt pads a 0 10 = missed\nt pads a 1 01 = hit\nt pads a 1 10 = missed\nt pads clk - 01 = hit\nt pads clk - 10 = hit\nend\n";
+    "covered-db 2\ntop pads\nsource 1 a.v\nsource 2 pads.v\nsource 3 ports.vh\ninstance pads pads\npoints 6\nt pads a 0 01 = hit\nt pads a 0 10 = missed\nt pads a 1 01 = hit\nt pads a 1 10 = missed\nt pads clk - 01 = hit\nt pads clk - 10 = hit\nwindows 1\nwindow 0 15\nend\n";
 
 /// The table of a register.
 const FIRST: &str =
-    "covered-db 1\ntop ff\nsource 1 ff.v\ninstance ff ff\npoints 11\nl ff 1 1:3 if = hit\nl ff 2 1:3 assign = hit\nl ff 3 1:3 assign = missed\nc ff 1 1:3 value 0 = missed\nc ff 1 1:3 value 1 = hit\nt ff a - 01 = missed\nt ff a - 10 = missed\nt ff clk - 01 = hit\nt ff clk - 10 = missed\nt ff q - 01 = missed\nt ff q - 10 = missed\nend\n";
+    "covered-db 2\ntop ff\nsource 1 ff.v\ninstance ff ff\npoints 11\nl ff 1 1:3 if = hit\nl ff 2 1:3 assign = hit\nl ff 3 1:3 assign = missed\nc ff 1 1:3 value 0 = missed\nc ff 1 1:3 value 1 = hit\nt ff a - 01 = missed\nt ff a - 10 = missed\nt ff clk - 01 = hit\nt ff clk - 10 = missed\nt ff q - 01 = missed\nt ff q - 10 = missed\nwindows 1\nwindow 0 10\nend\n";
 
 /// The same of another run.
 const SECOND: &str =
@@ -51,7 +51,7 @@ const SECOND: &str =
 
 /// Their merge.
 const MERGED: &str =
-    "covered-db 1\ntop ff\nsource 1 ff.v\ninstance ff ff\npoints 11\nl ff 1 1:3 if = hit\nl ff 2 1:3 assign = hit\nl ff 3 1:3 assign = ? 5 ff.a\nc ff 1 1:3 value 0 = ? 5 ff.a\nc ff 1 1:3 value 1 = hit\nt ff a - 01 = missed\nt ff a - 10 = hit\nt ff clk - 01 = hit\nt ff clk - 10 = missed\nt ff q - 01 = missed\nt ff q - 10 = missed\nend\n";
+    "covered-db 2\ntop ff\nsource 1 ff.v\ninstance ff ff\npoints 11\nl ff 1 1:3 if = hit\nl ff 2 1:3 assign = hit\nl ff 3 1:3 assign = ? 5 ff.a\nc ff 1 1:3 value 0 = ? 5 ff.a\nc ff 1 1:3 value 1 = hit\nt ff a - 01 = missed\nt ff a - 10 = hit\nt ff clk - 01 = hit\nt ff clk - 10 = missed\nt ff q - 01 = missed\nt ff q - 10 = missed\nwindows 1\nwindow 0 10\nend\n";
 
 /// A table of another design.
 const OTHER: &str = "covered-db 1\ntop ffr\nsource 1 ffr.v\ninstance ffr ffr\npoints 0\nend\n";
@@ -124,7 +124,7 @@ const INV_LACKING: &str =
     "$scope module tb $end\n$scope module dut $end\n$var wire 1 ! a $end\n$var wire 1 \" b $end\n$var wire 1 # y $end\n$upscope $end\n$upscope $end\n$enddefinitions $end\n#0\n0!\n1\"\n#5\n1!\n1#\n#10\n0!\n0#\n";
 
 const INV_DATABASE: &str =
-    "covered-db 1\ntop inv\nsource 1 inv.v\ninstance inv inv\npoints 9\nc inv 1 1:1 & 0- = missed\nc inv 1 1:1 & -0 = missed\nc inv 1 1:1 & 11 = hit\nt inv a - 01 = hit\nt inv a - 10 = missed\nt inv b - 01 = missed\nt inv b - 10 = missed\nt inv y - 01 = hit\nt inv y - 10 = missed\nend\n";
+    "covered-db 2\ntop inv\nsource 1 inv.v\ninstance inv inv\npoints 9\nc inv 1 1:1 & 0- = missed\nc inv 1 1:1 & -0 = missed\nc inv 1 1:1 & 11 = hit\nt inv a - 01 = hit\nt inv a - 10 = missed\nt inv b - 01 = missed\nt inv b - 10 = missed\nt inv y - 01 = hit\nt inv y - 10 = missed\nwindows 1\nwindow 0 10\nend\n";
 
 /// The tables.
 const TABLES: &[File] = &[("t1.db", FIRST), ("t2.db", SECOND), ("t5.db", OTHER)];
