@@ -216,7 +216,7 @@ pub windows_assoc : (a b c : List Window) → joined_windows (joined_windows a b
 windows_assoc a b c =
     same_windows (joined_windows (joined_windows a b) c) (joined_windows a (joined_windows b c)) (joined_rises (joined_windows a b) c) (joined_rises a (joined_windows b c))
     (λ x. joined_among x (joined_windows a b) c ∙ ap (λ (t : Bool). t || is_among x c) (joined_among x a b) ∙ or_assoc (is_among x a) (is_among x b) (is_among x c)
-      ∙ sym (joined_among x a (joined_windows b c) ∙ ap (λ (t : Bool). is_among x a || t) (joined_among x b c)))
+    ∙ sym (joined_among x a (joined_windows b c) ∙ ap (λ (t : Bool). is_among x a || t) (joined_among x b c)))
 
 pub windows_itself : (a : List Window) → Rises window_cmp a → joined_windows a a ≡ a
 windows_itself a r = same_windows (joined_windows a a) a (joined_rises a a) r (λ x. joined_among x a a ∙ or_itself (is_among x a))

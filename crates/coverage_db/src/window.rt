@@ -17,6 +17,8 @@ impl Window {
     pub fn compare(&self, other: &Window) -> Ordering
         ensures { result ≡ window_cmp self.now other.now }
     {
-        self.first.cmp(&other.first).then(self.last.cmp(&other.last))
+        self.first
+            .cmp(&other.first)
+            .then(self.last.cmp(&other.last))
     }
 }
