@@ -165,14 +165,14 @@ impl<'a> DumpReplay<'a> {
             → HasFollowed self.now habit design points vars instance entries → windows ≡ windows_of (dump_of (codes_of design vars instance) (steps_of entries)).times) }
     {
         let mut windows = Sequence::new(alloc);
-        if let Some(window) = self.window() {
+        if let Some(window) = self.span() {
             windows.push(window)?;
         }
         Ok(windows)
     }
 
     /// From the first time to the last, where they are two.
-    fn window(&self) -> Option<Window>
+    fn span(&self) -> Option<Window>
         ensures { result ≡ span_of self.now.first self.now.last }
     {
         match (self.first, self.last) {
