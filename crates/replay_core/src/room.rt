@@ -1,15 +1,15 @@
 //! The room of a step, which is used in each step anew.
 
-ghost use Rattle.std.specs.Prelude.{◌≡◌, ◌<◌, ◌≤◌, [], ℕ, IfOk, List, length};
+ghost use Rattle.std.specs.Prelude.{◌≡◌, ◌<◌, ◌≤◌, ◌+◌, [], ℕ, IfOk, List, length};
 ghost use Rattle.design_model.specs.Lawful.{IsLawfulDesign};
 ghost use Rattle.design_model.specs.View.{design_view};
 ghost use Rattle.early_sets.specs.WakeState.{state_of};
 ghost use Rattle.index_sets.specs.Rows.{row_at};
 ghost use Rattle.first_step.specs.step_values.Vectors.{FitsSignals};
-ghost use Rattle.first_step.specs.step_wakes.Step.{IsOfDesign};
+ghost use Rattle.first_step.specs.step_wakes.Step.{IsOfDesign, flag_at};
 ghost use Rattle.body_store.specs.Made.{nothing};
 ghost use Rattle.step_words.specs.Words.{FitsRanges, HasWords};
-ghost use Rattle.wake_laws.specs.Laws.{HasNoWriters};
+ghost use Rattle.wake_laws.specs.OfDesign.{AreWritersOf};
 ghost use Rattle.written_words.specs.Written.{AreRanges};
 ghost use Rattle.written_words.specs.declared.range.WordRange.{WordRange};
 ghost use Rattle.replay_core.specs.Codes.{flags_of};
@@ -109,7 +109,7 @@ fn step_room(alloc: Global, design: &Design, bound: &[bool]) -> Result<StepRoom,
     ensures changed { IfOk result (λ step. step.changed.size ≡ length design.now.signals) }
     ensures changes { IfOk result (λ step. step.changes.room ≡ length design.now.signals) }
     ensures sets { IfOk result (λ step. IsOfDesign (design_view design.now) bound.now (state_of step.sets)) }
-    ensures writers { IfOk result (λ step. HasNoWriters (state_of step.sets)) }
+    ensures writers { IfOk result (λ step. AreWritersOf (design_view design.now) (flag_at bound.now) (state_of step.sets).tables.things (state_of step.sets).writers) }
     ensures list { IfOk result (λ step. step.list.count ≡ length design.now.processes) }
     ensures none { IfOk result (λ step. step.list.pairs ≡ []) }
     ensures clocked { IfOk result (λ step. step.clocked.count ≡ length design.now.processes) }

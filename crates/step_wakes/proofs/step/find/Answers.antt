@@ -1,10 +1,9 @@
 use Rattle.std.proofs.Common.{◌<◌, ◌∙◌, None, get_or, length, sym, ap, subst, arith}
-use Rattle.std.specs.Prelude.{slice_index_or}
 use Rattle.std.specs.List.{Contains}
 use Rattle.std.proofs.lemmas.List.{get_or_default, take_all}
 use Rattle.four_state.specs.declared.bit.Bit.TheVariants.{Zero}
 use Rattle.early_sets.specs.WakeState.{state_of}
-use Rattle.step_wakes.proofs.Noting.{IsNoted, found_of, none_derived, noted_below, noted_more, noted_none, step_sets, still_of}
+use Rattle.step_wakes.proofs.Noting.{IsNoted, derived_written, found_of, noted_below, noted_more, noted_none, step_sets, still_of}
 use Rattle.step_wakes.specs.declared.step.SignalChange.{SignalChange}
 use Rattle.step_wakes.proofs.step.find.Goals as goal
 
@@ -52,10 +51,7 @@ returns-clause-noted g c = λ x i.
     subst (λ t. x < t.things) (sym (ap (λ w. w.tables) c.settle.ensures.rest ∙ c.loop-change.invariant.0.tables)) low
 
 pub returns-clause-derived : goal.returns-clause-derived
-returns-clause-derived g c = λ none.
-    let after = state_of c.settle.new.self in
-    let same = ap (λ w. w.writers) c.settle.ensures.rest ∙ c.loop-change.invariant.0.writers in
-    none_derived after c.settle.ensures.settled.earlier (λ x. ap (λ ws. slice_index_or ws x None) same ∙ none x) c.settle.ensures.settled.rounds
+returns-clause-derived g c = derived_written (state_of c.settle.new.self) c.settle.ensures.settled.earlier c.settle.ensures.settled.rounds
 
 pub returns-clause-sets : goal.returns-clause-sets
 returns-clause-sets g c d bound of =
