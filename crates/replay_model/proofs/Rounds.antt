@@ -188,7 +188,7 @@ module _ (d : Design) (lawful : IsLawfulDesign d) (dump : BoundDump) (t : ℕ) w
 -- ---- the order of rounds
 
 -- each is of no later round than those after it
-pub AreSorted : (ℕ → ℕ) → List ℕ → Type 0
+abbrev pub AreSorted : (ℕ → ℕ) → List ℕ → Type 0
 AreSorted round [] = ⊤
 AreSorted round (p ∷ ps) = ((q : ℕ) → In q ps → round p ≤ round q) × AreSorted round ps
 
@@ -221,7 +221,7 @@ module _ (round : ℕ → ℕ) where
       go true rest = (λ i. ⊎_elim (λ e. new (inl (sym e))) once.0 (in_put p x xs i), rest)
       go false rest = (new, once)
 
-  put_sorted : (p : ℕ) (xs : List ℕ) → AreSorted round xs → AreSorted round (put_in_round round p xs)
+  pub put_sorted : (p : ℕ) (xs : List ℕ) → AreSorted round xs → AreSorted round (put_in_round round p xs)
   put_sorted p [] sorted = (λ q i. absurd i, tt)
   put_sorted p (x ∷ xs) sorted = go (nat_le (round x) (round p)) refl (put_sorted p xs sorted.1)
     where

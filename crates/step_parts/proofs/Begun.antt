@@ -48,7 +48,7 @@ touched_are due codes ranks clocked_ranks before wakes values store early listed
 pub begun : BegunLaw
 begun due codes ranks clocked_ranks before wakes values first left store early clocked ran listed found v marks is has have still agree list vectors =
     let st = step_of due wakes early in
-    let sets = has.sets.sets in
+    let sets = has.sets in
     let moving = clocked_move due.design (habit_of due.habit) due.dump due.run due.tables (sets_of wakes early) due.time due.replay sets in
     let settling = settling_move due.design (habit_of due.habit) due.dump due.run due.tables (sets_of wakes early) due.time due.replay is.tabled sets in
     record {
