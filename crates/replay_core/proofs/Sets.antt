@@ -1,5 +1,5 @@
 -- What was found to be early is no part of the other sets.
-use Rattle.std.proofs.Common.{◌≡◌, ◌∙◌, ⊎_elim, ℕ, ◌<◌, Bool, true, List, Option, Some, None, refl, sym, subst}
+use Rattle.std.proofs.Common.{◌≡◌, ◌∙◌, ⊎_elim, ℕ, ◌<◌, ◌≤◌, Bool, true, List, Option, Some, None, ap, arith, cond, get_or, refl, sym, subst}
 use Rattle.std.specs.Prelude.{is_some}
 use Rattle.std.specs.List.{Contains}
 use Rattle.std.proofs.lemmas.Bool.{and_parts, false≢true, or_cases}
@@ -8,7 +8,7 @@ use Rattle.chosen_early.specs.Shared.{IsSameButEarly}
 use Rattle.cover_marks.specs.declared.marks.Marks.{Marks}
 use Rattle.design_model.specs.Design.{Design}
 use Rattle.early_sets.specs.Has.{is_in}
-use Rattle.early_sets.specs.Rounds.{writer_at}
+use Rattle.early_sets.specs.Rounds.{round_at, writer_at}
 use Rattle.early_sets.specs.WakeState.{WakeState, is_told}
 use Rattle.early_sets.proofs.Membership.{is_in_gives}
 use Rattle.first_step.specs.step_values.Loose.{has_code}
@@ -22,13 +22,17 @@ use Rattle.replay_core.specs.Fits.{HasWriters}
 use Rattle.replay_core.proofs.Codes.{flags_are}
 
 -- only signals with a code are single
-pub sets_of_step : (d : Design) (codes : List (Option ℕ)) (w : WakeState) → IsOfDesign d (flags_of codes) w → HasWriters d codes w → ((x : ℕ) → Contains w.derived x → is_some (writer_at w x) ≡ true) → ((x : ℕ) → Contains w.noted x → x < w.tables.things) → AreStepSets d codes w
-sets_of_step d codes w of writers derived noted = record {
+pub sets_of_step : (d : Design) (codes : List (Option ℕ)) (w : WakeState) → IsOfDesign d (flags_of codes) w → HasWriters d codes w → ((x : ℕ) → Contains w.derived x → is_some (writer_at w x) ≡ true) → ((x : ℕ) → Contains w.derived x → round_at w x ≤ w.tables.things) → ((x : ℕ) → Contains w.noted x → x < w.tables.things) → AreStepSets d codes w
+sets_of_step d codes w of writers derived numbers noted = record {
   tables = of.tables;
   single = λ x l e. ⊎_elim (told x l) (written x l) (or_cases (is_told w x) (is_in w.derived x) e);
+  numbers = λ x e. ⊎_elim (first x) (λ i. numbers x (is_in_gives w.derived x i)) (or_cases (is_told w x) (is_in w.derived x) e);
   noted = noted;
 }
   where
+    first : (x : ℕ) → is_told w x ≡ true → round_at w x ≤ w.tables.things
+    first x told = subst (λ n. n ≤ w.tables.things) (sym (ap (λ b. cond b 0 (get_or w.rounds x 0)) told)) (omega arith)
+
     told : (x : ℕ) → x < w.tables.things → is_told w x ≡ true → has_code codes x ≡ true
     told x l e = sym (flags_are codes x) ∙ (and_parts _ _ (sym (of.told x l) ∙ e)).1
 

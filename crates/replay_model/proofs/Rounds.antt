@@ -194,7 +194,7 @@ AreSorted round (p ∷ ps) = ((q : ℕ) → In q ps → round p ≤ round q) × 
 
 module _ (round : ℕ → ℕ) where
   -- one more among those before
-  in_put : (p q : ℕ) (xs : List ℕ) → In q (put_in_round round p xs) → In q (p ∷ xs)
+  pub in_put : (p q : ℕ) (xs : List ℕ) → In q (put_in_round round p xs) → In q (p ∷ xs)
   in_put p q [] i = i
   in_put p q (x ∷ xs) i = go (nat_le (round x) (round p)) (in_put p q xs) i
     where

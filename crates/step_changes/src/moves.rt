@@ -2,7 +2,7 @@ ghost use Rattle.std.specs.Prelude.{◌≡◌, ◌<◌, ◌≤◌, ℕ, Bool, Is
 ghost use Rattle.std.specs.List.{Contains};
 ghost use Rattle.step_values.specs.design_model.Design.{Design};
 ghost use Rattle.step_values.specs.design_model.Shows.{BoundDump};
-ghost use Rattle.early_sets.specs.Rounds.{HasMoves, writer_at};
+ghost use Rattle.early_sets.specs.Rounds.{HasMoves, round_at, writer_at};
 ghost use Rattle.early_sets.specs.WakeState.{state_of};
 ghost use Rattle.early_sets.specs.declared.habit.Habit.{Habit};
 ghost use Rattle.process_order.specs.replay_model.Sets.{AreSets};
@@ -43,6 +43,7 @@ pub fn find_moves(
     ensures design { (d : Design) (bound : List Bool) → IsOfDesign d bound (state_of sets.old) → IsOfDesign d bound (state_of sets.new) }
     ensures noted { (x : ℕ) → Contains (state_of sets.new).noted x → x < (state_of sets.new).tables.things }
     ensures derived { (x : ℕ) → Contains (state_of sets.new).derived x → IsSome (writer_at (state_of sets.new) x) }
+    ensures rounds { (x : ℕ) → Contains (state_of sets.new).derived x → round_at (state_of sets.new) x ≤ (state_of sets.new).tables.things }
     ensures tables { (state_of sets.new).tables ≡ (state_of sets.old).tables }
     ensures writers { (state_of sets.new).writers ≡ (state_of sets.old).writers }
     ensures moves { HasMoves (state_of sets.new) }

@@ -1,5 +1,5 @@
 -- The runs of the Clocked processes of a step, by its sets.
-use Rattle.std.specs.Prelude.{◌≡◌, ◌<◌, ◌&&◌, ◌++◌, ℕ, Bool, true, List, [], filter, is_none, is_some, length, Option, Some}
+use Rattle.std.specs.Prelude.{◌≡◌, ◌<◌, ◌≤◌, ◌&&◌, ◌++◌, ℕ, Bool, true, List, [], filter, is_none, is_some, length, Option, Some}
 use Rattle.std.specs.List.{Contains}
 use Rattle.code_values.specs.Values.{Values}
 use Rattle.design_model.specs.Design.{Design, In, body_at}
@@ -8,6 +8,7 @@ use Rattle.index_sets.specs.Rows.{row_at}
 use Rattle.clocked_marks.specs.chosen_runs.Chosen.{IsDumpedStep}
 use Rattle.clocked_marks.specs.chosen_runs.chosen_early.Shared.{IsEarlyList}
 use Rattle.clocked_marks.specs.chosen_runs.chosen_early.early_sets.WakeState.{WakeState, is_single, trigger_of, waker_of}
+use Rattle.clocked_marks.specs.chosen_runs.chosen_early.early_sets.Rounds.{round_at}
 use Rattle.clocked_marks.specs.chosen_runs.chosen_early.early_sets.declared.habit.Habit.{Habit}
 use Rattle.clocked_marks.specs.chosen_runs.clocked_block.OneRun.{IsRunBy}
 use Rattle.clocked_marks.specs.chosen_runs.clocked_block.clocked_runs.block_runs.body_calls.Own.{is_in}
@@ -47,6 +48,7 @@ clean_first w ps = clean_in_rounds w ps ++ filter (runs_weak w) ps
 pub record AreStepSets (d : Design) (codes : List (Option ℕ)) (w : WakeState) : Type 0 where
   pub tables : AreTablesOf d w.tables
   pub single : (x : ℕ) → x < w.tables.things → is_single w x ≡ true → has_code codes x ≡ true
+  pub numbers : (x : ℕ) → is_single w x ≡ true → round_at w x ≤ w.tables.things
   pub noted : (x : ℕ) → Contains w.noted x → x < w.tables.things
 
 -- there is a row for each process, with the signals and memories that it assigns

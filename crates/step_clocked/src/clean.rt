@@ -15,6 +15,7 @@ ghost use Rattle.clocked_marks.specs.chosen_runs.clocked_block.entry_values.step
 ghost use Rattle.clocked_marks.specs.chosen_runs.clocked_block.OneRun.{IsRunBy};
 ghost use Rattle.clocked_marks.specs.run_marks.cover_marks.Marks.{AreMarksOf};
 ghost use Rattle.clocked_marks.specs.run_marks.cover_points.Visits.{AreApart, AreOnce};
+ghost use Rattle.replay_sets.specs.SetsOf.{round_of};
 ghost use Rattle.replay_sets.specs.replay_model.Step.{Closing, Working, run_all_clean, run_clean as run_clean_of};
 ghost use Rattle.step_clocked.specs.Runs.{AreAssignedRows, AreChosenOf, AreStepSets, IsClockedStep, clean_in_rounds, is_unclean, runs_clean};
 
@@ -35,7 +36,7 @@ pub(crate) fn put_by_round(
 )
     requires processes { list.old.count ≡ (state_of sets.now).tables.processes }
     requires places { list.old.count ≤ by_round.old.count }
-    requires ranks { (state_of sets.now).tables.things < by_round.old.count }
+    requires ranks { (p : ℕ) → runs_clean (state_of sets.now) p ≡ true → round_of (state_of sets.now) p < by_round.old.count }
     requires empty { by_round.old.pairs ≡ [] }
     requires none_later { later.old.items ≡ [] }
     requires later { list.old.count ≤ later.old.room }
@@ -44,6 +45,7 @@ pub(crate) fn put_by_round(
     ensures later { later.new.items ≡ filter (is_unclean (state_of sets.now)) (map (λ q. q.0) list.old.pairs) }
     ensures later_places { later.new.room ≡ later.old.room }
     ensures rounds { by_round.new.count ≡ by_round.old.count }
+    ensures few { length by_round.new.pairs + length later.new.items ≤ list.old.count }
     ensures clean { map (λ q. q.0) by_round.new.pairs ≡ clean_in_rounds (state_of sets.now) (map (λ q. q.0) list.old.pairs) }
 {
     list.fitting();
@@ -102,21 +104,23 @@ pub(crate) fn run_clean_ones<L: Ledger>(
 {
     let mut shared = None;
     while let Some(process) = list.take() {
-        let Some(trigger) = sets.trigger(process) else {
-            unreachable!();
-        };
-        ran.push(process as usize);
-        run_clean(
-            process,
-            trigger,
-            &mut shared,
-            sets,
-            store,
-            given,
-            pieces,
-            notes,
-            steps,
-        );
+        match sets.trigger(process) {
+            Some(trigger) => {
+                ran.push(process as usize);
+                run_clean(
+                    process,
+                    trigger,
+                    &mut shared,
+                    sets,
+                    store,
+                    given,
+                    pieces,
+                    notes,
+                    steps,
+                );
+            }
+            None => unreachable!(),
+        }
     }
 }
 

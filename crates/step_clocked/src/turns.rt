@@ -40,6 +40,7 @@ pub(crate) fn run_in_turn<L: Ledger>(
     steps: &mut Steps<L>,
 )
     requires count { list.old.count ≡ length given.now.design.now.processes }
+    requires below { All (λ q. q.0 < length given.now.design.now.processes) list.old.pairs }
     requires places { length given.now.design.now.processes ≤ by_round.old.count }
     requires ranks { length given.now.design.now.signals + length given.now.design.now.memories < by_round.old.count }
     requires none_by_round { by_round.old.pairs ≡ [] }

@@ -1,9 +1,9 @@
-ghost use Rattle.std.specs.Prelude.{◌≡◌, ◌<◌, [], ℕ, Bool, IsSome, List, filter, length, map};
+ghost use Rattle.std.specs.Prelude.{◌≡◌, ◌<◌, ◌≤◌, [], ℕ, Bool, IsSome, List, filter, length, map};
 ghost use Rattle.std.specs.List.{Contains};
 ghost use Rattle.design_model.specs.Design.{Design};
 ghost use Rattle.design_model.specs.View.{design_view};
 ghost use Rattle.body_replay.specs.Store.{Kept};
-ghost use Rattle.early_sets.specs.Rounds.{HasMoves, writer_at};
+ghost use Rattle.early_sets.specs.Rounds.{HasMoves, round_at, writer_at};
 ghost use Rattle.early_sets.specs.WakeState.{state_of};
 ghost use Rattle.run_order.specs.Ranked.{AreRanksOf};
 ghost use Rattle.step_parts.specs.replay_sets.SetsOf.{AreChosen};
@@ -34,6 +34,7 @@ pub fn find_step(tables: &StepTables, values: &CodeValues, room: &mut StepRoom, 
     ensures list { room.new.list ≡ room.old.list }
     ensures moves { HasMoves (state_of room.new.sets) }
     ensures derived { (x : ℕ) → Contains (state_of room.new.sets).derived x → IsSome (writer_at (state_of room.new.sets) x) }
+    ensures rounds { (x : ℕ) → Contains (state_of room.new.sets).derived x → round_at (state_of room.new.sets) x ≤ (state_of room.new.sets).tables.things }
     ensures noted { (x : ℕ) → Contains (state_of room.new.sets).noted x → x < (state_of room.new.sets).tables.things }
     ensures listed { (order : List ℕ) → AreRanksOf order (length (design_view store.now.design.now).processes) tables.now.clocked
         → map (λ q. q.0) room.new.clocked.pairs ≡ filter (λ p. has p (state_of room.new.sets).woken) order }

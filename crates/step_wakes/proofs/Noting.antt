@@ -1,5 +1,5 @@
 -- The changes of a step, noted one after the other.
-use Rattle.std.proofs.Common.{◌≡◌, ◌≢◌, ◌⊎◌, ◌↔◌, inl, inr, ⊎_elim, ◌∙◌, ℕ, ◌-◌, ◌<◌, ◌+◌, ◌&&◌, ◌||◌, Bool, true, false, cond, not, List, [], ◌∷◌, ◌++◌, Option, Some, None, length, get_or, set, take, refl, sym, ap, ap₂, subst, arith, lt-ltb}
+use Rattle.std.proofs.Common.{◌≡◌, ◌≢◌, ◌⊎◌, ◌↔◌, inl, inr, ⊎_elim, ◌∙◌, ℕ, ◌-◌, ◌<◌, ◌≤◌, ◌+◌, ◌&&◌, ◌||◌, Bool, true, false, cond, not, List, [], ◌∷◌, ◌++◌, Option, Some, None, length, get_or, set, take, refl, sym, ap, ap₂, subst, arith, lt-ltb}
 use Rattle.std.specs.Prelude.{is_some}
 use Rattle.std.specs.List.{All, Contains}
 use Rattle.std.proofs.lemmas.Bool.{and_from, and_parts, both_ways, cases_Bool, cases_eq, cases_lt, false≢true, or_left, or_right, false_from_ne_true}
@@ -20,7 +20,7 @@ use Rattle.design_model.proofs.TargetCells.{target_cells_law}
 use Rattle.early_sets.specs.Adds.{Adds}
 use Rattle.early_sets.specs.Edges.{edges_between, no_edges}
 use Rattle.early_sets.specs.Has.{is_in}
-use Rattle.early_sets.specs.Rounds.{AreRounds, becomes_single, is_written_by, writer_at}
+use Rattle.early_sets.specs.Rounds.{AreRounds, becomes_single, is_written_by, round_at, writer_at}
 use Rattle.early_sets.specs.Settled.{HasSettled}
 use Rattle.early_sets.specs.WakeState.{WakeState, is_single, is_told, own_edges}
 use Rattle.early_sets.proofs.Membership.{is_in_from, is_in_gives}
@@ -310,6 +310,25 @@ pub noted_below : (before after : WakeState) (changes : List SignalChange) (n : 
     → (x : ℕ) → Contains after.noted x → x < n
 noted_below before after changes n untold all so x i =
     ⊎_elim (λ u. untold x u) (λ e. let at = e.2 in subst (λ z. z < n) e.1 (subst (λ (c : SignalChange). c.signal < n) at.2 (all at.0 e.0 at.1))) (so.only x i)
+
+-- what became single did so in a round with a number of at most the rounds
+number_within : (w : WakeState) (earlier : List WakeState) → AreRounds (w ∷ earlier) → (x : ℕ) → Contains w.derived x → get_or w.rounds x 0 ≤ length earlier
+number_within w [] rounds x i = let m = subst (λ xs. Contains xs x) rounds.0 i in absurd (omega (arith, m.1))
+number_within w (a ∷ earlier) (next, rounds) x i = ⊎_elim now before (cases_Bool (becomes_single a x))
+  where
+    now : becomes_single a x ≡ true → get_or w.rounds x 0 ≤ length (a ∷ earlier)
+    now h = let is = next.now x h in omega (arith, is)
+
+    before : becomes_single a x ≡ false → get_or w.rounds x 0 ≤ length (a ∷ earlier)
+    before h =
+        let is = next.before x h in
+        let rest = number_within a earlier rounds x (⊎_elim (λ k. k) (λ k. absurd (both_ways _ h k)) ((next.derived x).0 i)) in
+        omega (arith, is, rest)
+
+pub round_within : (w : WakeState) (earlier : List WakeState) → AreRounds (w ∷ earlier) → length earlier ≤ w.tables.things → (x : ℕ) → Contains w.derived x → round_at w x ≤ w.tables.things
+round_within w earlier rounds few x i =
+    let most = number_within w earlier rounds x i in
+    ⊎_elim (λ h. subst (λ n. n ≤ w.tables.things) (sym (ap (λ b. cond b 0 (get_or w.rounds x 0)) h)) (omega arith)) (λ h. subst (λ n. n ≤ w.tables.things) (sym (ap (λ b. cond b 0 (get_or w.rounds x 0)) h)) (omega (arith, most, few))) (cases_Bool (is_told w x))
 
 -- what became single in a round has a writer
 pub derived_written : (w : WakeState) (earlier : List WakeState) → AreRounds (w ∷ earlier) → (x : ℕ) → Contains w.derived x → is_some (writer_at w x) ≡ true

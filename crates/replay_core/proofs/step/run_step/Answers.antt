@@ -58,7 +58,7 @@ run_woken_clocked-requires g c =
       replayable = c.requires.replayable;
       fits = fits;
       below = clocked_inside d points x r s n fits e.listed (length D.processes) (length-map D.processes process_view);
-      sets = sets_of_step d x.step.codes.items (state_of n.sets) fits.room.sets fits.room.writers e.derived e.noted;
+      sets = sets_of_step d x.step.codes.items (state_of n.sets) fits.room.sets fits.room.writers e.derived e.rounds e.noted;
       closed = c.requires.closed;
       given = c.requires.given;
     }

@@ -3,7 +3,7 @@ use Rattle.std.specs.List.{Contains}
 use Rattle.std.proofs.lemmas.List.{get_or_default, take_all}
 use Rattle.four_state.specs.declared.bit.Bit.TheVariants.{Zero}
 use Rattle.early_sets.specs.WakeState.{state_of}
-use Rattle.step_wakes.proofs.Noting.{IsNoted, derived_written, found_of, noted_below, noted_more, noted_none, step_sets, still_of}
+use Rattle.step_wakes.proofs.Noting.{IsNoted, derived_written, found_of, noted_below, noted_more, noted_none, round_within, step_sets, still_of}
 use Rattle.step_wakes.specs.declared.step.SignalChange.{SignalChange}
 use Rattle.step_wakes.proofs.step.find.Goals as goal
 
@@ -53,6 +53,9 @@ returns-clause-noted g c = λ x i.
 pub returns-clause-derived : goal.returns-clause-derived
 returns-clause-derived g c = derived_written (state_of c.settle.new.self) c.settle.ensures.settled.earlier c.settle.ensures.settled.rounds
 
+pub returns-clause-rounds : goal.returns-clause-rounds
+returns-clause-rounds g c = round_within (state_of c.settle.new.self) c.settle.ensures.settled.earlier c.settle.ensures.settled.rounds c.settle.ensures.settled.few
+
 pub returns-clause-sets : goal.returns-clause-sets
 returns-clause-sets g c d bound of =
     let changes = c.args.changes.now in
@@ -68,5 +71,6 @@ returns-clause-turns g c =
       earlier = settled.earlier;
       rounds = settled.rounds;
       is_last = settled.is_last;
+      few = settled.few;
       turns = omega (arith, c.loop-change.invariant.1, c.loop-change.invariant.2, settled.turns, untold, same);
     }
