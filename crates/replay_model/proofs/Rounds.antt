@@ -1,17 +1,17 @@
 -- The rounds in which triggers become single: what is early for a clean block, and the order in which clean blocks run.
 use Rattle.std.proofs.Common.{◌≡◌, ◌≢◌, ◌⊎◌, inl, inr, ⊎_elim, ℕ, zero, suc, ◌+◌, ◌-◌, ◌<◌, ◌≤◌, Bool, true, false, List, [], ◌∷◌, refl, sym, ap, subst, ◌∙◌, arith, if◌then◌else◌}
-use Rattle.std.specs.Prelude.{nat_le}
+use Rattle.std.specs.Prelude.{nat_le, ⊤}
 use Rattle.std.proofs.lemmas.Bool.{and_parts, both_ways, cases_eq, cases_lt, le-leb, leb-true}
 use Rattle.event_machine.specs.Cell.{Cell}
 use Rattle.event_machine.specs.Machine.{Edge, IsLawful, IsTarget}
 use Rattle.event_machine.specs.Habit.{Habit, Free, Late, is_free_input}
-use Rattle.event_machine.specs.MayMove.{CanWake, IsClean, MayMove, MayWake, of_input as moves_input, of_target as moves_target}
+use Rattle.event_machine.specs.MayMove.{CanWake, IsClean, MayMove, MayWake}
 use Rattle.event_machine.specs.Early.{of_blocking, of_input, of_nonblocking, of_trigger}
 use Rattle.event_machine.specs.Told.{IsToldCell, IsToldInput}
 use Rattle.event_machine.specs.Single.{IsSingle, IsWrittenOnce}
 use Rattle.event_machine.specs.Laws.{RoundGrows}
 use Rattle.event_machine.proofs.Rounds.{single_told}
-use Rattle.design_model.specs.Design.{AreDistinct, Design, In, IsClocked, body_at, process_at, signal_at}
+use Rattle.design_model.specs.Design.{AreDistinct, Design, In, body_at, process_at, signal_at}
 use Rattle.design_model.specs.Mentions.{body_assigns}
 use Rattle.design_model.specs.Machine.{machine}
 use Rattle.design_model.specs.Shows.{BoundDump}
@@ -27,7 +27,7 @@ use Rattle.replay_model.proofs.Targets.{input_unassigned, one_assigner, target_a
 
 module _ (d : Design) (lawful : IsLawfulDesign d) (dump : BoundDump) (t : ℕ) where
   abbrev Single : ℕ → Cell → Type 0
-  Single n c = IsSingle (machine d) (told_at dump t) n c
+  Single n = IsSingle (machine d) (told_at dump t) n
 
   abbrev WakesIn : ℕ → Cell → ℕ → Type 0
   WakesIn n c p = CanWake (machine d) (told_at dump t) (Single n) c p
@@ -106,8 +106,8 @@ module _ (d : Design) (lawful : IsLawfulDesign d) (dump : BoundDump) (t : ℕ) w
         free Late = (law.event_signals b.thing).1 (q, e, b, refl, lists)
 
         go : (x : ℕ) → x ≡ b.thing → MayMoveAt d dump t x → IsEarlyAt d h dump t p c x
-        go x same (moves_input a moving) = of_input a moving (λ input. subst (λ z. is_free_input (machine d) h z ≡ true) (sym same) (free h)) (λ z. apart (sym same ∙ z))
-        go x same (moves_target y w a may wakes target) = absurd (input_unassigned d lawful w b.thing (is_input b told.0) (subst (λ z. body_assigns z (body_at d w) ≡ true) same (target_assigns d lawful w a target)))
+        go x same (MayMove.of_input a moving) = of_input a moving (λ input. subst (λ z. is_free_input (machine d) h z ≡ true) (sym same) (free h)) (λ z. apart (sym same ∙ z))
+        go x same (MayMove.of_target y w a may wakes target) = absurd (input_unassigned d lawful w b.thing (is_input b told.0) (subst (λ z. body_assigns z (body_at d w) ≡ true) same (target_assigns d lawful w a target)))
 
     -- what is written once
     module _ (r : ℕ) (less : r < n) (before : AreEarly r) (b : Cell) (q : ℕ) (e : Edge) (lists : (machine d).edge q e b ≡ true) (made : IsWrittenOnce (machine d) (told_at dump t) (Single r) b) (apart : b.thing ≢ c.thing) where
@@ -126,9 +126,9 @@ module _ (d : Design) (lawful : IsLawfulDesign d) (dump : BoundDump) (t : ℕ) w
 
       -- its writer can wake
       woken : (x : ℕ) → x ≡ b.thing → MayMoveAt d dump t x → (x : Cell) × CanWakeAt d dump t x made.writer
-      woken x same (moves_input a moving) =
+      woken x same (MayMove.of_input a moving) =
           absurd (input_unassigned d lawful made.writer b.thing (subst (λ z. (signal_at d z).input ≡ true) same (is_input a moving.0)) (target_assigns d lawful made.writer b made.writes))
-      woken x same (moves_target y w a may wakes target) = by_writer y w a same may wakes target
+      woken x same (MayMove.of_target y w a may wakes target) = by_writer y w a same may wakes target
 
       -- by a trigger that is early
       by_early : (a : Cell) → CanWakeAt d dump t a made.writer → (k : Cell) → CleanIn r made.writer k → IsEarlyAt d h dump t p c b.thing
@@ -158,7 +158,7 @@ module _ (d : Design) (lawful : IsLawfulDesign d) (dump : BoundDump) (t : ℕ) w
     pub events_early : (r : ℕ) → r ≤ n → AreEarly r
     events_early zero at_most b q e lists told moves apart = input_early b q e lists told moves apart
     events_early (suc r) at_most b q e lists (inl told) moves apart = input_early b q e lists told moves apart
-    events_early (suc r) at_most b q e lists (inr made) moves apart = written_early r at_most (events_early r (omega (arith, at_most))) b q e lists made apart moves
+    events_early (suc r) at_most b q e lists (inr made) moves apart = written_early r (omega (arith, at_most)) (events_early r (omega (arith, at_most))) b q e lists made apart moves
 
   -- ---- clean blocks
 

@@ -1,6 +1,6 @@
 -- The clean ones of a list, put on a wake list by the numbers of their rounds.
 use Rattle.std.proofs.Common.{◌≡◌, ◌⊎◌, inl, inr, ⊎_elim, ℕ, ◌+◌, Bool, true, false, if◌then◌else◌, List, [], ◌∷◌, length, map, Option, Some, None, arith, refl, sym, ap, ◌∙◌}
-use Rattle.std.specs.Prelude.{IfSome, is_some, nat_le, sum_by}
+use Rattle.std.specs.Prelude.{IfSome, is_none, is_some, nat_le, sum_by, ⊤}
 use Rattle.std.specs.List.{filter}
 use Rattle.std.proofs.lemmas.Bool.{both_ways, cases_Bool, false≢true, false_from_ne_true, or_cases}
 use Rattle.std.proofs.lemmas.Bool.{eqb-true}
@@ -89,7 +89,7 @@ sum_parts f w [] = refl
 sum_parts f w (p ∷ ps) = go (trigger_of w p) (sum_parts f w ps)
   where
     go : (o : Option ℕ) → sum_by f (filter (runs_clean w) ps) + sum_by f (filter (is_unclean w) ps) ≡ sum_by f ps
-        → sum_by f (if is_some o then p ∷ filter (runs_clean w) ps else filter (runs_clean w) ps) + sum_by f (if Rattle.std.specs.Prelude.is_none o then p ∷ filter (is_unclean w) ps else filter (is_unclean w) ps) ≡ sum_by f (p ∷ ps)
+        → sum_by f (if is_some o then p ∷ filter (runs_clean w) ps else filter (runs_clean w) ps) + sum_by f (if is_none o then p ∷ filter (is_unclean w) ps else filter (is_unclean w) ps) ≡ sum_by f (p ∷ ps)
     go None rest = let a = sum_by-cons f p (filter (is_unclean w) ps) in let b = sum_by-cons f p ps in omega (arith, a, b, rest)
     go (Some s) rest = let a = sum_by-cons f p (filter (runs_clean w) ps) in let b = sum_by-cons f p ps in omega (arith, a, b, rest)
 
