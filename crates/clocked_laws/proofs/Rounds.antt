@@ -46,8 +46,8 @@ module _ (round : ℕ → ℕ) (f : ℕ → Bool) where
       after le =
           ap (filter f) (put_after p x xs le)
           ∙ ⊎_elim
-          (λ yes. passed x (put_in_round round p xs) yes ∙ ap (λ ys. x ∷ ys) rest ∙ sym (put_after p x (filter f xs) le) ∙ ap (put_in_round round p) (sym (passed x xs yes)))
-          (λ no'. left_out x (put_in_round round p xs) no' ∙ rest ∙ ap (put_in_round round p) (sym (left_out x xs no')))
+          (λ passes. passed x (put_in_round round p xs) passes ∙ ap (λ ys. x ∷ ys) rest ∙ sym (put_after p x (filter f xs) le) ∙ ap (put_in_round round p) (sym (passed x xs passes)))
+          (λ fails. left_out x (put_in_round round p xs) fails ∙ rest ∙ ap (put_in_round round p) (sym (left_out x xs fails)))
           (cases_Bool (f x))
 
       before : nat_le (round x) (round p) ≡ false → filter f (put_in_round round p (x ∷ xs)) ≡ put_in_round round p (filter f (x ∷ xs))
@@ -67,7 +67,7 @@ module _ (round : ℕ → ℕ) (f : ℕ → Bool) where
       after : nat_le (round x) (round p) ≡ true → filter f (put_in_round round p (x ∷ xs)) ≡ filter f (x ∷ xs)
       after le =
           ap (filter f) (put_after p x xs le)
-          ∙ ⊎_elim (λ yes. passed x (put_in_round round p xs) yes ∙ ap (λ ys. x ∷ ys) rest ∙ sym (passed x xs yes)) (λ no'. left_out x (put_in_round round p xs) no' ∙ rest ∙ sym (left_out x xs no')) (cases_Bool (f x))
+          ∙ ⊎_elim (λ passes. passed x (put_in_round round p xs) passes ∙ ap (λ ys. x ∷ ys) rest ∙ sym (passed x xs passes)) (λ fails. left_out x (put_in_round round p xs) fails ∙ rest ∙ sym (left_out x xs fails)) (cases_Bool (f x))
 
       before : nat_le (round x) (round p) ≡ false → filter f (put_in_round round p (x ∷ xs)) ≡ filter f (x ∷ xs)
       before gt = ap (filter f) (put_before p x xs gt) ∙ left_out p (x ∷ xs) e
@@ -77,8 +77,8 @@ module _ (round : ℕ → ℕ) (f : ℕ → Bool) where
   puts_filtered (p ∷ ps) done sorted =
       puts_filtered ps (put_in_round round p done) (put_sorted round p done sorted)
       ∙ ⊎_elim
-      (λ yes. ap (put_in_rounds round (filter f ps)) (put_passed p done sorted yes) ∙ ap (λ ys. put_in_rounds round ys (filter f done)) (sym (passed p ps yes)))
-      (λ no'. ap (put_in_rounds round (filter f ps)) (put_left_out p done no') ∙ ap (λ ys. put_in_rounds round ys (filter f done)) (sym (left_out p ps no')))
+      (λ passes. ap (put_in_rounds round (filter f ps)) (put_passed p done sorted passes) ∙ ap (λ ys. put_in_rounds round ys (filter f done)) (sym (passed p ps passes)))
+      (λ fails. ap (put_in_rounds round (filter f ps)) (put_left_out p done fails) ∙ ap (λ ys. put_in_rounds round ys (filter f done)) (sym (left_out p ps fails)))
       (cases_Bool (f p))
 
 pub order_filtered : (round : ℕ → ℕ) (f : ℕ → Bool) (ps : List ℕ) → filter f (in_rounds round ps) ≡ in_rounds round (filter f ps)

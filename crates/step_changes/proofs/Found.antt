@@ -157,15 +157,20 @@ module _ (d : Design) (dump : BoundDump) (t : ℕ) (flags : List Bool) (codes : 
     -- what may become single and changes is among them
     candidate : (x p : ℕ) → writer_at w x ≡ Some p → dump.values (t - 1) (cell x 0) ≢ dump.values t (cell x 0) → (e : SignalChange) × (e.signal ≡ x) × Contains changes e
     candidate x p is ne =
-        let by = (due.writers.is x p (inside (slice_index_or w.writers x None) refl is)).0 is in
+        let by = (due.writers.is x p inside).0 is in
         let code = code_of codes x (sym (due.bound x) ∙ by.is_bound) in
         let m = (are x).1 (code.0, code.1, bit_changed x code.0 code.1 ne) in
         (change_by codes values x, refl, map_in (change_by codes values) changed x m)
       where
-        inside : (o : Option ℕ) → slice_index_or w.writers x None ≡ o → o ≡ Some p → x < w.tables.things
-        inside o same some =
+        past : w.tables.things ≤ x → ⊥
+        past most =
             let size = due.writers.count_is in
-            ⊎_elim (λ less. less) (λ most. absurd (let none = get_or_past w.writers x None (omega (arith, size, most)) in let no : None ≡ Some p = sym none ∙ same ∙ some in cc)) (cases_lt x w.tables.things)
+            let none = get_or_past w.writers x None (omega (arith, size, most)) in
+            let none_some : None ≡ Some p = sym none ∙ is in
+            cc
+
+        inside : x < w.tables.things
+        inside = ⊎_elim (λ less. less) (λ most. absurd (past most)) (cases_lt x w.tables.things)
 
     changes_are : (after : WakeState) → after.writers ≡ w.writers → AreChanges d dump t after changes
     changes_are after same =
