@@ -48,7 +48,7 @@ module _ (d : Design) (h : Habit) (dump : BoundDump) (run : Runs) (tables : Tabl
   -- what a clean block reads allows the values on which it is evaluated
   pub entry_allowed : (p s : ℕ) → sets.trigger p ≡ Some s → (o : CleanEvaluation d h dump t (settled d r t) (settled d r (suc t)) p (cell s 0)) → AllowsState (entry_kept st p s) o.entry
   entry_allowed p s e o =
-      blocks.reads_entry d is.lawful h early_law dump is.fits run is.runs tables t sets are a (settled d r t) (settled d r (suc t)) facts starts (λ q. ⊥) (opened st) (record { mid = settled d r t; allowed = starts; start_or = λ c. inl refl; unqueued = λ c none k. refl; final = λ q x. absurd x }) (λ q x. absurd x) p (λ x. x) s (are.trigger p s e) o
+      blocks.reads_entry d is.lawful h early_law dump is.fits run is.runs tables t sets are a (settled d r t) (settled d r (suc t)) facts starts (λ q. ⊥) (opened st) (record { mid = settled d r t; allowed = starts; start_or = λ c. inl refl; unqueued = λ c none k. refl; final = λ q x. absurd x }) p (λ q x. absurd x) (λ x. x) s e o
 
   abbrev Mixed : ℕ → Values Bit → Values Bit
   Mixed p v c = if blocking_target d (body_at d p) c then v c else settled d r (suc t) c

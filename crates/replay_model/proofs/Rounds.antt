@@ -122,7 +122,7 @@ module _ (d : Design) (lawful : IsLawfulDesign d) (dump : BoundDump) (t : ℕ) w
 
           go : MayWake (machine d) (told_at dump t) (IsSingleAt d dump t) y made.writer → (x : Cell) × CanWakeAt d dump t x made.writer
           go (inl level) = absurd (both_ways _ (made.clocked y) level)
-          go (inr k) = (k.0, k.2, subst (λ z. MayMoveAt d dump t z) (sym k.1) may)
+          go (inr k) = (k.0, (k.2, subst (λ z. MayMoveAt d dump t z) (sym k.1) may))
 
       -- its writer can wake
       woken : (x : ℕ) → x ≡ b.thing → MayMoveAt d dump t x → (x : Cell) × CanWakeAt d dump t x made.writer
