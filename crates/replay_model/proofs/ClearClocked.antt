@@ -8,7 +8,7 @@ use Rattle.event_machine.specs.Habit.{Habit}
 use Rattle.event_machine.specs.Laws.{EarlyLaw}
 use Rattle.design_model.specs.four_state.declared.bit.Bit.{Bit}
 use Rattle.design_model.specs.declared.point.Point.{Point}
-use Rattle.design_model.specs.Design.{Design, In, IsClocked, IsThing, Thing, a_signal, a_word, body_at, cell, cells, process_at, signal_at}
+use Rattle.design_model.specs.Design.{Design, In, IsClocked, IsThing, Thing, a_signal, a_word, body_at, cell, cells, process_at}
 use Rattle.design_model.specs.Mentions.{body_assigns, has_cell}
 use Rattle.design_model.specs.Execution.{execution}
 use Rattle.design_model.specs.Machine.{machine}

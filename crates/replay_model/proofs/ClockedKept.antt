@@ -6,7 +6,7 @@ use Rattle.event_machine.specs.Habit.{Habit}
 use Rattle.event_machine.specs.Laws.{EarlyLaw}
 use Rattle.event_machine.specs.Machine.{IsTarget}
 use Rattle.design_model.specs.declared.point.Point.{Point}
-use Rattle.design_model.specs.Design.{AreDistinct, Design, In, IsClocked, body_at, cell, process_at}
+use Rattle.design_model.specs.Design.{AreDistinct, Design, In, IsClocked, body_at, process_at}
 use Rattle.design_model.specs.Mentions.{blocking_target, body_assigns, nonblocking_target}
 use Rattle.design_model.specs.Machine.{machine}
 use Rattle.design_model.specs.Shows.{BoundDump}

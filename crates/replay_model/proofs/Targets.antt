@@ -1,5 +1,5 @@
 -- What a lawful design says of targets, and of what is early for a clean block.
-use Rattle.std.proofs.Common.{◌≡◌, ◌≢◌, ◌⊎◌, inl, inr, ⊎_elim, ℕ, true, false, not, ◌&&◌, refl, sym, ap, subst, ◌∙◌}
+use Rattle.std.proofs.Common.{◌≡◌, ◌≢◌, ◌⊎◌, inl, inr, ⊎_elim, ℕ, true, false, not, ◌&&◌, sym, ap, subst, ◌∙◌}
 use Rattle.std.proofs.lemmas.Bool.{and_parts, and_from, both_ways, cases_Bool, false_from_ne_true, or_cases, or_left, or_right}
 use Rattle.event_machine.specs.Cell.{Cell}
 use Rattle.event_machine.specs.Machine.{IsTarget}
@@ -15,7 +15,6 @@ use Rattle.design_model.specs.Shows.{BoundDump}
 use Rattle.design_model.specs.MayMove.{IsCleanAt, IsSingleAt, MayMoveAt, told_at}
 use Rattle.design_model.specs.Early.{IsEarlyAt}
 use Rattle.design_model.specs.Lawful.{IsLawfulDesign}
-use Rattle.design_model.proofs.Assigns.{machine_lawful}
 use Rattle.design_model.proofs.Lawful.{any_weaker, assign_or, assigns_any, names_from}
 use Rattle.design_model.proofs.Sound.{no_level}
 use Rattle.replay_model.specs.Step.{is_target}

@@ -8,7 +8,6 @@ use Rattle.event_machine.specs.Laws.{EarlyLaw}
 use Rattle.design_model.specs.Design.{AreDistinct, Design, In, cell}
 use Rattle.design_model.specs.Machine.{machine}
 use Rattle.design_model.specs.Shows.{BoundDump}
-use Rattle.design_model.specs.MayMove.{IsCleanAt}
 use Rattle.design_model.specs.Lawful.{IsLawfulDesign}
 use Rattle.design_model.specs.declared.point.Point.{Point}
 use Rattle.body_replay.specs.Contract.{Doubted, Note, clean, weak}
