@@ -62,6 +62,7 @@ fn make_set(
         sources: Sequence::new(alloc),
         instances: Sequence::new(alloc),
         points: make_points(alloc, pattern, table, count, state)?,
+        windows: Sequence::new(alloc),
     };
     HitSet::of(alloc, &db)
 }

@@ -7,14 +7,15 @@ use crate::retry::{read_some, write_some};
 use crate::{Failed, Host, HostFault, OpenFault};
 use std::alloc::Global;
 use std::fs::OpenFile;
-use std::io::{Eprint, ErrorKind, Read, Write};
+use std::io::{ErrorKind, Print, Read, Write};
 use std::rt::{Files, Runtime};
 use std::{fs, io};
 
 /// The files, the standard output and the standard error of the system. Its contents are not known to contracts. What
 /// the system does is not proved.
-pub struct FileHost<R: Runtime> {
+pub struct FileHost<R: Runtime, E: Print> {
     system: (R, Global),
+    warnings: E,
     input: Option<R::File>,
     output: Option<R::File>,
     faults: u64,
@@ -23,10 +24,11 @@ pub struct FileHost<R: Runtime> {
 }
 
 // Written out so that a crate which lets one go does not prove again how each of its parts is let go.
-impl<R: Runtime + Drop> Drop for FileHost<R> {
+impl<R: Runtime + Drop, E: Print + Drop> Drop for FileHost<R, E> {
     fn drop(self) {
         let FileHost {
             system: _,
+            warnings: _,
             input: _,
             output: _,
             faults: _,
@@ -36,15 +38,16 @@ impl<R: Runtime + Drop> Drop for FileHost<R> {
     }
 }
 
-impl<R: Runtime> FileHost<R> {
+impl<R: Runtime, E: Print> FileHost<R, E> {
     ghost use Rattle.cov_host.specs.FileHost.{file_outside};
 
-    /// Nothing is being read or written. Files are opened with the allocator.
-    pub fn new(rt: R, alloc: Global) -> Self
+    /// Nothing is being read or written. Files are opened with the allocator, and warnings, which need not be text, go to the second stream.
+    pub fn new(rt: R, warnings: E, alloc: Global) -> Self
         ensures { file_outside result ≡ untold_outside }
     {
         FileHost {
             system: (rt, alloc),
+            warnings,
             input: None,
             output: None,
             faults: 0,
@@ -54,7 +57,7 @@ impl<R: Runtime> FileHost<R> {
     }
 }
 
-impl<R: Runtime> Host for FileHost<R> {
+impl<R: Runtime, E: Print> Host for FileHost<R, E> {
     ghost use Rattle.cov_host.specs.FileHost.{file_outside};
 
     ghost outside = { file_outside };
@@ -110,7 +113,7 @@ impl<R: Runtime> Host for FileHost<R> {
     }
 
     fn warn(&mut self, piece: &[u8]) -> Result<(), HostFault> {
-        let answer = eprint_bytes(&self.system, piece);
+        let answer = self.warnings.write_all(piece);
         if answer.is_err() {
             raise(&mut self.mute);
         }
@@ -150,15 +153,4 @@ fn open_file<R: Files>(system: &R, name: &str) -> io::Result<R::File> {
         return Err(io::Error::from(ErrorKind::IsADirectory));
     }
     Ok(file)
-}
-
-/// Writes to the standard error, which takes text: a byte that is no text is an error.
-fn eprint_bytes(system: &impl Eprint, piece: &[u8]) -> io::Result<()> {
-    for chunk in piece.utf8_chunks() {
-        system.eprint(chunk.valid())?;
-        if !chunk.invalid().is_empty() {
-            return Err(io::Error::from(ErrorKind::InvalidData));
-        }
-    }
-    Ok(())
 }

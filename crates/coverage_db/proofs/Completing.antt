@@ -19,11 +19,15 @@ use Rattle.coverage_db.specs.declared.draft.Stage.TheVariants as stage
 use Rattle.coverage_db.specs.declared.fault.DbFault.{DbFault}
 use Rattle.coverage_db.specs.declared.fault.DbFault.TheVariants.{At}
 use Rattle.coverage_db.specs.declared.fault.DbKind.TheVariants.{WrongCount}
-use Rattle.coverage_db.specs.Drafting.{source_of, count_of, with_source, with_instance, with_point, next_version, next_top, next_source, next_instance, next_count, next_point, next_end, next, start}
+use Rattle.coverage_db.specs.declared.version.Version.{Version}
+use Rattle.coverage_db.specs.declared.version.Version.TheVariants as version
+use Rattle.coverage_db.specs.declared.window.Window.{Window}
+use Rattle.coverage_db.specs.Drafting.{source_of, count_of, with_source, with_instance, with_point, with_window, next_version, next_top, next_source, next_instance, next_count, next_point, next_counted, next_window_count, next_window, next_windows_counted, next_end, next, start}
 use Rattle.coverage_db.specs.Fields.{is_plain}
-use Rattle.coverage_db.specs.Table.{Rises, IsInstance, IsPoint, IsTable, is_file_name}
-use Rattle.coverage_db.specs.Text.{begins_point, top_line, source_line, source_lines, instance_line, count_line, point_line, head_lines, lines_with_count}
-use Rattle.coverage_db.proofs.DraftLaws.{by_address, top_again, source_again, instance_line_again, count_again, follows_in}
+use Rattle.coverage_db.specs.Table.{Rises, IsInstance, IsPoint, IsSpan, IsTable, is_file_name}
+use Rattle.coverage_db.specs.Text.{begins_point, begins_window, version_line, top_line, source_line, source_lines, instance_line, count_line, point_line, window_count_line, window_line, lines_to_points, lines_to_windows, lines_with_counts}
+use Rattle.coverage_db.specs.Windows.{window_cmp}
+use Rattle.coverage_db.proofs.DraftLaws.{by_address, known_again, top_again, source_again, instance_line_again, count_again, window_count_again, window_again, follows_in}
 use Rattle.coverage_db.proofs.PathSearch.{by_path, same_path}
 use Rattle.coverage_db.proofs.PointLaws.{point_again}
 
@@ -133,69 +137,83 @@ points_lead d (p ∷ points) stands each rise =
     let whole = both_lead d (point_line d.db.instances p ∷ []) new (map (point_line d.db.instances) points) _ (one_leads d (point_line d.db.instances p) new read) rest in
     subst (λ (ps : List DbPoint). Leads d (map (point_line d.db.instances) (p ∷ points)) (record d { db = record d.db { points = ps } })) (append_assoc d.db.points (p ∷ []) points) whole
 
+-- ---- windows
+
+windows_lead : (d : Draft) (windows : List Window) → d.stage ≡ stage.Windows → All IsSpan windows → Rises window_cmp (d.db.windows ++ windows) → Leads d (map window_line windows) (record d { db = record d.db { windows = d.db.windows ++ windows } })
+unfolding next_window
+windows_lead d [] at each rise = subst (λ (ws : List Window). Leads d [] (record d { db = record d.db { windows = ws } })) (sym (append-nil d.db.windows)) (none_leads d)
+windows_lead d (w ∷ windows) at each rise =
+    let new : Draft = with_window d w in
+    let read : (n : ℕ) → next n d (window_line w) ≡ Ok new = λ n. rw at (rw (window_again w (All-head IsSpan w windows each), follows_in window_cmp d.db.windows w windows rise) refl) in
+    let rest = windows_lead new windows at (All-tail IsSpan w windows each) (subst (Rises window_cmp) (sym (append_assoc d.db.windows (w ∷ []) windows)) rise) in
+    let whole = both_lead d (window_line w ∷ []) new (map window_line windows) _ (one_leads d (window_line w) new read) rest in
+    subst (λ (ws : List Window). Leads d (map window_line (w ∷ windows)) (record d { db = record d.db { windows = ws } })) (append_assoc d.db.windows (w ∷ []) windows) whole
+
 -- ---- a whole table
 
--- the draft of a table whose first instance is this
-abbrev pub headed : Global → List ℕ → List (List ℕ) → List DbInstance → Draft
-headed alloc top sources instances = record { alloc = alloc; stage = stage.Instances; count = []; db = record { top = top; sources = sources; instances = instances; points = [] } }
+-- the draft of a table in this version whose first instance is this
+abbrev pub headed : Global → Version → List ℕ → List (List ℕ) → List DbInstance → Draft
+headed alloc v top sources instances =
+    record { alloc = alloc; stage = stage.Instances; version = v; count = []; window_count = []; db = record { top = top; sources = sources; instances = instances; points = []; windows = [] } }
 
-version_is : (n : ℕ) (alloc : Global) → next n (start alloc) (codes "covered-db 1") ≡ Ok (record (start alloc) { stage = stage.Top })
+version_is : (n : ℕ) (alloc : Global) (v : Version) → next n (start alloc) (version_line v) ≡ Ok (record (start alloc) { stage = stage.Top; version = v })
 unfolding next_version
-version_is n alloc = refl
+version_is n alloc v = rw (known_again v) refl
 
-top_is : (n : ℕ) (alloc : Global) (top : List ℕ) → is_identifier top ≡ true
-    → next n (record (start alloc) { stage = stage.Top }) (top_line top) ≡ Ok (record { alloc = alloc; stage = stage.Sources; count = []; db = record { top = top; sources = []; instances = []; points = [] } })
+top_is : (n : ℕ) (alloc : Global) (v : Version) (top : List ℕ) → is_identifier top ≡ true
+    → next n (record (start alloc) { stage = stage.Top; version = v }) (top_line top) ≡ Ok (record { alloc = alloc; stage = stage.Sources; version = v; count = []; window_count = []; db = record { top = top; sources = []; instances = []; points = []; windows = [] } })
 unfolding next_top
-top_is n alloc top is = rw (top_again top is) refl
+top_is n alloc v top is = rw (top_again top is) refl
 
-head_lead : (alloc : Global) (top : List ℕ) (sources : List (List ℕ)) (i : DbInstance) (instances : List DbInstance) → is_identifier top ≡ true → All (λ name. IsTrue (is_file_name name)) sources → sources ≢ [] → All IsInstance (i ∷ instances) → Rises by_path (i ∷ instances)
-    → Leads (start alloc) (codes "covered-db 1" ∷ top_line top ∷ source_lines 1 sources ++ map instance_line (i ∷ instances)) (headed alloc top sources (i ∷ instances))
-head_lead alloc top sources i instances named files some each rise =
+head_lead : (alloc : Global) (v : Version) (top : List ℕ) (sources : List (List ℕ)) (i : DbInstance) (instances : List DbInstance) → is_identifier top ≡ true → All (λ name. IsTrue (is_file_name name)) sources → sources ≢ [] → All IsInstance (i ∷ instances) → Rises by_path (i ∷ instances)
+    → Leads (start alloc) (version_line v ∷ top_line top ∷ source_lines 1 sources ++ map instance_line (i ∷ instances)) (headed alloc v top sources (i ∷ instances))
+head_lead alloc v top sources i instances named files some each rise =
     let d0 : Draft = start alloc in
-    let d1 : Draft = record d0 { stage = stage.Top } in
-    let d2 : Draft = record { alloc = alloc; stage = stage.Sources; count = []; db = record { top = top; sources = []; instances = []; points = [] } } in
+    let d1 : Draft = record d0 { stage = stage.Top; version = v } in
+    let d2 : Draft = record { alloc = alloc; stage = stage.Sources; version = v; count = []; window_count = []; db = record { top = top; sources = []; instances = []; points = []; windows = [] } } in
     let d3 : Draft = record d2 { db = record d2.db { sources = sources } } in
-    let d4 : Draft = headed alloc top sources (i ∷ []) in
-    let a = one_leads d0 (codes "covered-db 1") d1 (λ n. version_is n alloc) in
-    let b = one_leads d1 (top_line top) d2 (λ n. top_is n alloc top named) in
+    let d4 : Draft = headed alloc v top sources (i ∷ []) in
+    let a = one_leads d0 (version_line v) d1 (λ n. version_is n alloc v) in
+    let b = one_leads d1 (top_line top) d2 (λ n. top_is n alloc v top named) in
     let c : Leads d2 (source_lines 1 sources) d3 = sources_lead d2 1 sources refl refl files in
     let d : Leads d3 (instance_line i ∷ []) d4 = one_leads d3 (instance_line i) d4 (λ n. first_instance_is n d3 i instances refl some (All-head IsInstance i instances each) rise) in
-    let e : Leads d4 (map instance_line instances) (headed alloc top sources (i ∷ instances)) = instances_lead d4 instances refl (All-tail IsInstance i instances each) rise in
-    let ab = both_lead d0 (codes "covered-db 1" ∷ []) d1 (top_line top ∷ []) d2 a b in
-    let abc = both_lead d0 (codes "covered-db 1" ∷ top_line top ∷ []) d2 (source_lines 1 sources) d3 ab c in
-    let de = both_lead d3 (instance_line i ∷ []) d4 (map instance_line instances) (headed alloc top sources (i ∷ instances)) d e in
-    both_lead d0 (codes "covered-db 1" ∷ top_line top ∷ source_lines 1 sources) d3 (map instance_line (i ∷ instances)) (headed alloc top sources (i ∷ instances)) abc de
+    let e : Leads d4 (map instance_line instances) (headed alloc v top sources (i ∷ instances)) = instances_lead d4 instances refl (All-tail IsInstance i instances each) rise in
+    let ab = both_lead d0 (version_line v ∷ []) d1 (top_line top ∷ []) d2 a b in
+    let abc = both_lead d0 (version_line v ∷ top_line top ∷ []) d2 (source_lines 1 sources) d3 ab c in
+    let de = both_lead d3 (instance_line i ∷ []) d4 (map instance_line instances) (headed alloc v top sources (i ∷ instances)) d e in
+    both_lead d0 (version_line v ∷ top_line top ∷ source_lines 1 sources) d3 (map instance_line (i ∷ instances)) (headed alloc v top sources (i ∷ instances)) abc de
+
+-- the table before its windows are read
+abbrev pub bare : Db → Db
+bare db = record db { windows = [] }
 
 -- the draft of a table with these digits for the number of points
-abbrev pub counted : Global → List ℕ → Db → Draft
-counted alloc digits db = record { alloc = alloc; stage = stage.Points; count = digits; db = db }
+abbrev pub counted : Global → Version → List ℕ → Db → Draft
+counted alloc v digits db = record { alloc = alloc; stage = stage.Points; version = v; count = digits; window_count = []; db = bare db }
 
-count_is : (n : ℕ) (alloc : Global) (digits top : List ℕ) (sources : List (List ℕ)) (instances : List DbInstance) → is_plain digits ≡ true
-    → next n (headed alloc top sources instances) (count_line digits) ≡ Ok (counted alloc digits (record { top = top; sources = sources; instances = instances; points = [] }))
+count_is : (n : ℕ) (alloc : Global) (v : Version) (digits top : List ℕ) (sources : List (List ℕ)) (instances : List DbInstance) → is_plain digits ≡ true
+    → next n (headed alloc v top sources instances) (count_line digits) ≡ Ok (counted alloc v digits (record { top = top; sources = sources; instances = instances; points = []; windows = [] }))
 unfolding next_count
-count_is n alloc digits top sources instances plain = rw (count_again digits plain) refl
+count_is n alloc v digits top sources instances plain = rw (count_again digits plain) refl
 
--- the lines up to the last point
-abbrev pub lines_to_points : List ℕ → Db → List (List ℕ)
-lines_to_points digits db = head_lines db ++ count_line digits ∷ map (point_line db.instances) db.points
-
-table_by : (alloc : Global) (digits top : List ℕ) (sources : List (List ℕ)) (instances : List DbInstance) (points : List DbPoint) → let db : Db = record { top = top; sources = sources; instances = instances; points = points } in
-    is_plain digits ≡ true → IsTable db → Leads (start alloc) (lines_to_points digits db) (counted alloc digits db)
-table_by alloc digits top sources [] points plain table = absurd (table.some_instance refl)
-table_by alloc digits top sources (i ∷ instances) points plain table =
-    let db : Db = record { top = top; sources = sources; instances = i ∷ instances; points = [] } in
-    let d5 = headed alloc top sources (i ∷ instances) in
-    let d6 = counted alloc digits db in
-    let a = head_lead alloc top sources i instances table.top table.sources table.some_source table.instances table.instances_rise in
-    let b = one_leads d5 (count_line digits) d6 (λ n. count_is n alloc digits top sources (i ∷ instances) plain) in
+table_by : (alloc : Global) (v : Version) (digits top : List ℕ) (sources : List (List ℕ)) (instances : List DbInstance) (points : List DbPoint) (windows : List Window)
+    → let db : Db = record { top = top; sources = sources; instances = instances; points = points; windows = windows } in
+    is_plain digits ≡ true → IsTable db → Leads (start alloc) (lines_to_points v digits db) (counted alloc v digits db)
+table_by alloc v digits top sources [] points windows plain table = absurd (table.some_instance refl)
+table_by alloc v digits top sources (i ∷ instances) points windows plain table =
+    let db : Db = record { top = top; sources = sources; instances = i ∷ instances; points = []; windows = [] } in
+    let d5 = headed alloc v top sources (i ∷ instances) in
+    let d6 = counted alloc v digits db in
+    let a = head_lead alloc v top sources i instances table.top table.sources table.some_source table.instances table.instances_rise in
+    let b = one_leads d5 (count_line digits) d6 (λ n. count_is n alloc v digits top sources (i ∷ instances) plain) in
     let few : length sources < 2 ^ 32 = omega (arith, table.lines) in
-    let c : Leads d6 (map (point_line (i ∷ instances)) points) (counted alloc digits (record db { points = points })) = points_lead d6 points (record { at = refl; few = few; instances = table.instances; rise = table.instances_rise }) table.points table.points_rise in
+    let c : Leads d6 (map (point_line (i ∷ instances)) points) (counted alloc v digits (record db { points = points })) = points_lead d6 points (record { at = refl; few = few; instances = table.instances; rise = table.instances_rise }) table.points table.points_rise in
     let bc = both_lead d5 (count_line digits ∷ []) d6 (map (point_line (i ∷ instances)) points) _ b c in
-    both_lead (start alloc) (codes "covered-db 1" ∷ top_line top ∷ source_lines 1 sources ++ map instance_line (i ∷ instances)) d5 (count_line digits ∷ map (point_line (i ∷ instances)) points) _ a bc
+    both_lead (start alloc) (version_line v ∷ top_line top ∷ source_lines 1 sources ++ map instance_line (i ∷ instances)) d5 (count_line digits ∷ map (point_line (i ∷ instances)) points) _ a bc
 
 -- the lines of a table up to its last point lead to it
-pub table_leads : (alloc : Global) (digits : List ℕ) (db : Db) → is_plain digits ≡ true → IsTable db → Leads (start alloc) (lines_to_points digits db) (counted alloc digits db)
-table_leads alloc digits db plain table = table_by alloc digits db.top db.sources db.instances db.points plain table
+pub table_leads : (alloc : Global) (v : Version) (digits : List ℕ) (db : Db) → is_plain digits ≡ true → IsTable db → Leads (start alloc) (lines_to_points v digits db) (counted alloc v digits db)
+table_leads alloc v digits db plain table = table_by alloc v digits db.top db.sources db.instances db.points db.windows plain table
 
 not_same : (a b : List ℕ) → a ≢ b → bytes_eq a b ≡ false
 not_same a b differs =
@@ -205,27 +223,106 @@ not_same a b differs =
     ]
 
 -- a line that is not of a point, where the number of points is another
-pub wrong_count_is : (n : ℕ) (alloc : Global) (digits line : List ℕ) (db : Db) → begins_point line ≡ false → digits ≢ decimal (length db.points)
-    → next n (counted alloc digits db) line ≡ Err (At WrongCount (Some (3 + length db.sources + length db.instances)))
-unfolding next_point next_end
-wrong_count_is n alloc digits line db other differs = rw (other, not_same digits (decimal (length db.points)) differs) refl
+pub wrong_count_is : (n : ℕ) (alloc : Global) (v : Version) (digits line : List ℕ) (db : Db) → begins_point line ≡ false → digits ≢ decimal (length db.points)
+    → next n (counted alloc v digits db) line ≡ Err (At WrongCount (Some (3 + length db.sources + length db.instances)))
+unfolding next_point next_counted
+wrong_count_is n alloc v digits line db other differs = rw (other, not_same digits (decimal (length db.points)) differs) refl
 
--- the last line, where the number of points is right
-pub end_line : (n : ℕ) (alloc : Global) (digits : List ℕ) (db : Db) → bytes_eq digits (decimal (length db.points)) ≡ true → next n (counted alloc digits db) (codes "end") ≡ Ok (record (counted alloc digits db) { stage = stage.End })
-unfolding next_point next_end
-end_line n alloc digits db right = rw right refl
+-- the draft of a table with these digits for the numbers of points and of windows
+abbrev pub windowed : Global → List ℕ → List ℕ → Db → Draft
+windowed alloc digits windows db = record { alloc = alloc; stage = stage.Windows; version = version.Two; count = digits; window_count = windows; db = db }
 
--- all lines of a table, with these digits for the number of points, are read up to their end, or the number is wrong
-pub all_lines : (alloc : Global) (digits : List ℕ) (db : Db) → is_plain digits ≡ true → IsTable db
-    → (steps 1 (start alloc) (lines_with_count digits db) ≡ Ok (record (counted alloc digits db) { stage = stage.End })) ⊎ (steps 1 (start alloc) (lines_with_count digits db) ≡ Err (At WrongCount (Some (3 + length db.sources + length db.instances))))
-all_lines alloc digits db plain table =
-    let n = length (lines_to_points digits db) + 1 in
-    let to_points : steps 1 (start alloc) (lines_with_count digits db) ≡ steps n (counted alloc digits db) (codes "end" ∷ []) = table_leads alloc digits db plain table 1 (codes "end" ∷ []) in
+window_count_is : (n : ℕ) (alloc : Global) (digits windows : List ℕ) (db : Db) → bytes_eq digits (decimal (length db.points)) ≡ true → is_plain windows ≡ true → next n (counted alloc version.Two digits db) (window_count_line windows) ≡ Ok (windowed alloc digits windows (bare db))
+unfolding next_point next_counted next_window_count
+window_count_is n alloc digits windows db right plain = rw (right, window_count_again windows plain) refl
+
+-- the lines of a table up to its last window lead to it, where the number of points is right
+pub windows_lead_to : (alloc : Global) (digits windows : List ℕ) (db : Db) → is_plain digits ≡ true → is_plain windows ≡ true → IsTable db → bytes_eq digits (decimal (length db.points)) ≡ true
+    → Leads (start alloc) (lines_to_windows version.Two digits windows db) (windowed alloc digits windows db)
+windows_lead_to alloc digits windows db plain windows_plain table right =
+    let d7 = counted alloc version.Two digits db in
+    let d8 = windowed alloc digits windows (bare db) in
+    let a = table_leads alloc version.Two digits db plain table in
+    let b = one_leads d7 (window_count_line windows) d8 (λ n. window_count_is n alloc digits windows db right windows_plain) in
+    let c : Leads d8 (map window_line db.windows) (windowed alloc digits windows db) = windows_lead d8 db.windows refl table.windows.spans table.windows.rise in
+    let bc = both_lead d7 (window_count_line windows ∷ []) d8 (map window_line db.windows) _ b c in
+    both_lead (start alloc) (lines_to_points version.Two digits db) d7 (window_count_line windows ∷ map window_line db.windows) _ a bc
+
+-- a line that is not of a window, where the number of windows is another
+pub wrong_window_count_is : (n : ℕ) (alloc : Global) (digits windows line : List ℕ) (db : Db) → begins_window line ≡ false → windows ≢ decimal (length db.windows)
+    → next n (windowed alloc digits windows db) line ≡ Err (At WrongCount (Some (4 + length db.sources + length db.instances + length db.points)))
+unfolding next_window next_windows_counted
+wrong_window_count_is n alloc digits windows line db other differs = rw (other, not_same windows (decimal (length db.windows)) differs) refl
+
+-- the draft of a whole table in this version
+abbrev pub whole_draft : Global → Version → List ℕ → List ℕ → Db → Draft
+whole_draft alloc version.One digits windows db = record (counted alloc version.One digits db) { stage = stage.End }
+whole_draft alloc version.Two digits windows db = record (windowed alloc digits windows db) { stage = stage.End }
+
+-- the last line, where the numbers are right
+end_of_points : (n : ℕ) (alloc : Global) (digits : List ℕ) (db : Db) → bytes_eq digits (decimal (length db.points)) ≡ true → next n (counted alloc version.One digits db) (codes "end") ≡ Ok (record (counted alloc version.One digits db) { stage = stage.End })
+unfolding next_point next_counted next_end
+end_of_points n alloc digits db right = rw right refl
+
+end_of_windows : (n : ℕ) (alloc : Global) (digits windows : List ℕ) (db : Db) → bytes_eq windows (decimal (length db.windows)) ≡ true → next n (windowed alloc digits windows db) (codes "end") ≡ Ok (record (windowed alloc digits windows db) { stage = stage.End })
+unfolding next_window next_windows_counted next_end
+end_of_windows n alloc digits windows db right = rw right refl
+
+-- the steps came to this draft, or to a wrong number
+abbrev Comes : Draft → Result Draft DbFault → Type 0
+Comes d r = (r ≡ Ok d) ⊎ ((k : ℕ) × (r ≡ Err (At WrongCount (Some k))))
+
+differs_by : (a b : List ℕ) → bytes_eq a b ≡ false → a ≢ b
+differs_by a b wrong same = let bad : true ≡ false = sym (same_path a b same) ∙ wrong in cc
+
+points_end : (alloc : Global) (digits windows : List ℕ) (db : Db) → is_plain digits ≡ true → IsTable db → Comes (whole_draft alloc version.One digits windows db) (steps 1 (start alloc) (lines_with_counts version.One digits windows db))
+points_end alloc digits windows db plain table =
+    let n = length (lines_to_points version.One digits db) + 1 in
+    let to_points : steps 1 (start alloc) (lines_with_counts version.One digits windows db) ≡ steps n (counted alloc version.One digits db) (codes "end" ∷ []) = table_leads alloc version.One digits db plain table 1 (codes "end" ∷ []) in
     elim (cases_Bool (bytes_eq digits (decimal (length db.points)))) [
-      | inl right ↦
-          let same : digits ≡ decimal (length db.points) = (bytes_eq-Decides digits (decimal (length db.points))).0 right in
-          inl (to_points ∙ ap (λ (r : Result Draft DbFault). bind r (λ x. steps (n + 1) x [])) (end_line n alloc digits db right))
-      | inr wrong ↦
-          let differs : digits ≢ decimal (length db.points) = λ same. let bad : true ≡ false = sym (same_path digits (decimal (length db.points)) same) ∙ wrong in cc in
-          inr (to_points ∙ ap (λ (r : Result Draft DbFault). bind r (λ x. steps (n + 1) x [])) (wrong_count_is n alloc digits (codes "end") db refl differs))
+      | inl right ↦ inl (to_points ∙ ap (λ (r : Result Draft DbFault). bind r (λ x. steps (n + 1) x [])) (end_of_points n alloc digits db right))
+      | inr wrong ↦ inr (3 + length db.sources + length db.instances, to_points ∙ ap (λ (r : Result Draft DbFault). bind r (λ x. steps (n + 1) x [])) (wrong_count_is n alloc version.One digits (codes "end") db refl (differs_by digits (decimal (length db.points)) wrong)))
     ]
+
+windows_end : (alloc : Global) (digits windows : List ℕ) (db : Db) → is_plain digits ≡ true → is_plain windows ≡ true → IsTable db → bytes_eq digits (decimal (length db.points)) ≡ true
+    → Comes (whole_draft alloc version.Two digits windows db) (steps 1 (start alloc) (lines_with_counts version.Two digits windows db))
+windows_end alloc digits windows db plain windows_plain table right =
+    let n = length (lines_to_windows version.Two digits windows db) + 1 in
+    let to_windows : steps 1 (start alloc) (lines_with_counts version.Two digits windows db) ≡ steps n (windowed alloc digits windows db) (codes "end" ∷ []) = windows_lead_to alloc digits windows db plain windows_plain table right 1 (codes "end" ∷ []) in
+    elim (cases_Bool (bytes_eq windows (decimal (length db.windows)))) [
+      | inl counts ↦ inl (to_windows ∙ ap (λ (r : Result Draft DbFault). bind r (λ x. steps (n + 1) x [])) (end_of_windows n alloc digits windows db counts))
+      | inr wrong ↦
+          inr (4 + length db.sources + length db.instances + length db.points, to_windows ∙ ap (λ (r : Result Draft DbFault). bind r (λ x. steps (n + 1) x [])) (wrong_window_count_is n alloc digits windows (codes "end") db refl (differs_by windows (decimal (length db.windows)) wrong)))
+    ]
+
+-- the line of the number of windows is of no point
+no_point_line : (windows : List ℕ) → begins_point (window_count_line windows) ≡ false
+no_point_line windows = refl
+
+miscounted_end : (alloc : Global) (digits windows : List ℕ) (db : Db) → is_plain digits ≡ true → IsTable db → bytes_eq digits (decimal (length db.points)) ≡ false
+    → Comes (whole_draft alloc version.Two digits windows db) (steps 1 (start alloc) (lines_with_counts version.Two digits windows db))
+miscounted_end alloc digits windows db plain table wrong =
+    let n = length (lines_to_points version.Two digits db) + 1 in
+    let others : List (List ℕ) = map window_line db.windows ++ codes "end" ∷ [] in
+    let split : lines_with_counts version.Two digits windows db ≡ lines_to_points version.Two digits db ++ window_count_line windows ∷ others = append_assoc (lines_to_points version.Two digits db) (window_count_line windows ∷ map window_line db.windows) (codes "end" ∷ []) in
+    let stuck = wrong_count_is n alloc version.Two digits (window_count_line windows) db (no_point_line windows) (differs_by digits (decimal (length db.points)) wrong) in
+    inr (3 + length db.sources + length db.instances, ap (steps 1 (start alloc)) split ∙ table_leads alloc version.Two digits db plain table 1 (window_count_line windows ∷ others) ∙ ap (λ (r : Result Draft DbFault). bind r (λ x. steps (n + 1) x others)) stuck)
+
+-- all lines of a table, with these digits for the numbers of points and of windows, are read up to their end, or a number is wrong
+pub all_lines : (alloc : Global) (v : Version) (digits windows : List ℕ) (db : Db) → is_plain digits ≡ true → is_plain windows ≡ true → IsTable db → Comes (whole_draft alloc v digits windows db) (steps 1 (start alloc) (lines_with_counts v digits windows db))
+all_lines alloc version.One digits windows db plain windows_plain table = points_end alloc digits windows db plain table
+all_lines alloc version.Two digits windows db plain windows_plain table =
+    elim (cases_Bool (bytes_eq digits (decimal (length db.points)))) [
+      | inl right ↦ windows_end alloc digits windows db plain windows_plain table right
+      | inr wrong ↦ miscounted_end alloc digits windows db plain table wrong
+    ]
+
+-- the lines of a table in this version, with its own numbers
+pub table_steps : (alloc : Global) (v : Version) (digits windows : List ℕ) (db : Db) → is_plain digits ≡ true → is_plain windows ≡ true → IsTable db → bytes_eq digits (decimal (length db.points)) ≡ true → bytes_eq windows (decimal (length db.windows)) ≡ true
+    → steps 1 (start alloc) (lines_with_counts v digits windows db) ≡ Ok (whole_draft alloc v digits windows db)
+table_steps alloc version.One digits windows db plain windows_plain table right counts =
+    let n = length (lines_to_points version.One digits db) + 1 in
+    table_leads alloc version.One digits db plain table 1 (codes "end" ∷ []) ∙ ap (λ (r : Result Draft DbFault). bind r (λ x. steps (n + 1) x [])) (end_of_points n alloc digits db right)
+table_steps alloc version.Two digits windows db plain windows_plain table right counts =
+    let n = length (lines_to_windows version.Two digits windows db) + 1 in
+    windows_lead_to alloc digits windows db plain windows_plain table right 1 (codes "end" ∷ []) ∙ ap (λ (r : Result Draft DbFault). bind r (λ x. steps (n + 1) x [])) (end_of_windows n alloc digits windows db counts)

@@ -7,7 +7,7 @@ use Rattle.std.specs.Ordering.{is_lt}
 use Rattle.std.proofs.lemmas.Bool.{cases_Bool, and_parts}
 use Rattle.std.proofs.lemmas.List.{append-nil}
 use Rattle.std.proofs.lemmas.List.Elements.{All-nil, All-push}
-use Rattle.std.proofs.lemmas.Option.{cond_some}
+use Rattle.std.proofs.lemmas.Option.{cond_some, same_Some}
 use Rattle.std.proofs.lemmas.Slice.Eq.{bytes_eq-Decides}
 use Rattle.cov_host.specs.Identifier.{is_identifier}
 use Rattle.coverage_db.specs.declared.db.Db.{Db}
@@ -17,19 +17,48 @@ use Rattle.coverage_db.specs.declared.draft.Draft.{Draft}
 use Rattle.coverage_db.specs.declared.draft.Stage.{Stage}
 use Rattle.coverage_db.specs.declared.draft.Stage.TheVariants as stage
 use Rattle.coverage_db.specs.declared.fault.DbFault.{DbFault}
-use Rattle.coverage_db.specs.Drafting.{top_of, source_of, instance_at, count_of, after_last, follows, bad, or_else, with_source, with_instance, with_point, next_version, next_top, next_source, next_instance, next_count, next_point, next_end, next_at, next, is_version}
-use Rattle.coverage_db.specs.Fields.{◌>>=◌, split_first, behind, is_plain}
+use Rattle.coverage_db.specs.declared.fault.DbFault.TheVariants.{At}
+use Rattle.coverage_db.specs.declared.fault.DbKind.TheVariants.{WrongVersion}
+use Rattle.coverage_db.specs.declared.version.Version.{Version}
+use Rattle.coverage_db.specs.declared.version.Version.TheVariants as version
+use Rattle.coverage_db.specs.declared.window.Window.{Window}
+use Rattle.coverage_db.specs.Drafting.{version_of, top_of, source_of, instance_at, count_of, window_count_of, window_of, after_last, follows, bad, or_else, with_source, with_instance, with_point, with_window, next_version, next_top, next_source, next_instance, next_count, next_point, next_counted, next_behind, next_window_count, next_window, next_windows_counted, next_end, next_at, next, is_version}
+use Rattle.coverage_db.specs.Fields.{◌>>=◌, split_first, behind, is_plain, number_of}
 use Rattle.coverage_db.specs.Order.{address_cmp}
 use Rattle.coverage_db.specs.Reading.{point_of}
-use Rattle.coverage_db.specs.Table.{Rises, IsIdentifier, IsInstance, IsPoint, is_path, is_file_name}
-use Rattle.coverage_db.specs.Text.{begins_point, top_line, source_line, source_lines, instance_line, count_line, point_line, head_lines, lines_with_count}
-use Rattle.coverage_db.proofs.Lacking.{path_lacks}
+use Rattle.coverage_db.specs.Table.{Rises, IsIdentifier, IsInstance, IsPoint, IsSpan, is_path, is_file_name}
+use Rattle.coverage_db.specs.Text.{begins_point, begins_window, version_line, top_line, source_line, source_lines, instance_line, count_line, point_line, window_count_line, window_line, head_lines, lines_to_points, lines_to_windows, lines_with_counts}
+use Rattle.coverage_db.specs.Windows.{window_cmp}
+use Rattle.coverage_db.proofs.Lacking.{decimal_lacks, path_lacks}
+use Rattle.coverage_db.proofs.Numbers.{number_takes, number_again}
 use Rattle.coverage_db.proofs.PathSearch.{by_path}
 use Rattle.coverage_db.proofs.PointLaws.{point_takes}
 use Rattle.coverage_db.proofs.Splitting.{behind_takes, behind_again, split_takes, split_again}
 use Rattle.coverage_db.proofs.WordLaws.{bind_some}
 
 -- ---- lines
+
+pub known_takes : (line : List ℕ) (v : Version) → version_of line ≡ Some v → line ≡ version_line v
+unfolding version_of
+known_takes line v e =
+    elim (cases_Bool (bytes_eq line (codes "covered-db 2"))) [
+      | inl two ↦
+          let same : line ≡ codes "covered-db 2" = (bytes_eq-Decides line (codes "covered-db 2")).0 two in
+          let is : ◌≡◌ {A = Option Version} (Some version.Two) (Some v) = rw two at e in
+          subst (λ (w : Version). line ≡ version_line w) (same_Some version.Two v is) same
+      | inr no_two ↦ elim (cases_Bool (bytes_eq line (codes "covered-db 1"))) [
+        | inl one ↦
+            let same : line ≡ codes "covered-db 1" = (bytes_eq-Decides line (codes "covered-db 1")).0 one in
+            let is : ◌≡◌ {A = Option Version} (Some version.One) (Some v) = rw (no_two, one) at e in
+            subst (λ (w : Version). line ≡ version_line w) (same_Some version.One v is) same
+        | inr no_one ↦ absurd (let bad : ◌≡◌ {A = Option Version} None (Some v) = rw (no_two, no_one) at e in cc)
+      ]
+    ]
+
+pub known_again : (v : Version) → version_of (version_line v) ≡ Some v
+unfolding version_of
+known_again version.One = refl
+known_again version.Two = refl
 
 pub top_takes : (line top : List ℕ) → top_of line ≡ Some top → (line ≡ top_line top) × IsIdentifier top
 unfolding top_of
@@ -90,6 +119,45 @@ pub count_again : (digits : List ℕ) → IsTrue (is_plain digits) → count_of 
 unfolding count_of
 count_again digits is = rw (behind_again (codes "points ") digits, is) refl
 
+pub window_count_takes : (line digits : List ℕ) → window_count_of line ≡ Some digits → (line ≡ window_count_line digits) × IsTrue (is_plain digits)
+unfolding window_count_of
+window_count_takes line digits e =
+    let x0 = bind_some (behind (codes "windows ") line) (λ word. cond (is_plain word) (Some word) None) digits (e) in
+    let taken = cond_some (is_plain x0.0) x0.0 digits x0.2 in
+    subst (λ (t : List ℕ). (line ≡ window_count_line t) × IsTrue (is_plain t)) taken.1 (behind_takes (codes "windows ") line x0.0 x0.1, taken.0)
+
+pub window_count_again : (digits : List ℕ) → IsTrue (is_plain digits) → window_count_of (window_count_line digits) ≡ Some digits
+unfolding window_count_of
+window_count_again digits is = rw (behind_again (codes "windows ") digits, is) refl
+
+abbrev made_window : ℕ → ℕ → Window
+made_window first last = record { first = first; last = last }
+
+pub window_takes : (line : List ℕ) (w : Window) → window_of line ≡ Some w → (line ≡ window_line w) × IsSpan w
+unfolding window_of
+window_takes line w e =
+    let x0 = bind_some (behind (codes "window ") line) (λ times. split_first 32 times >>= λ parts. number_of 0 9223372036854775807 parts.0 >>= λ first. number_of (first + 1) 9223372036854775807 parts.1 >>= λ last. Some (made_window first last)) w (e) in
+    let x1 = bind_some (split_first 32 x0.0) (λ parts. number_of 0 9223372036854775807 parts.0 >>= λ first. number_of (first + 1) 9223372036854775807 parts.1 >>= λ last. Some (made_window first last)) w (x0.2) in
+    let x2 = bind_some (number_of 0 9223372036854775807 x1.0.0) (λ first. number_of (first + 1) 9223372036854775807 x1.0.1 >>= λ last. Some (made_window first last)) w (x1.2) in
+    let x3 = bind_some (number_of (x2.0 + 1) 9223372036854775807 x1.0.1) (λ last. Some (made_window x2.0 last)) w (x2.2) in
+    let a = number_takes 0 9223372036854775807 x2.0 x1.0.0 (omega arith) x2.1 in
+    let b = number_takes (x2.0 + 1) 9223372036854775807 x3.0 x1.0.1 (omega arith) x3.1 in
+    let parts = split_takes 32 x0.0 x1.0.0 x1.0.1 x1.1 in
+    let times : x0.0 ≡ decimal x2.0 ++ 32 ∷ decimal x3.0 = parts.whole ∙ ap (λ (t : List ℕ). t ++ 32 ∷ x1.0.1) a.spelled ∙ ap (λ (t : List ℕ). decimal x2.0 ++ 32 ∷ t) b.spelled in
+    let whole : line ≡ window_line (made_window x2.0 x3.0) = behind_takes (codes "window ") line x0.0 x0.1 ∙ ap (λ (t : List ℕ). codes "window " ++ t) times ∙ sym (append_assoc (codes "window ") (decimal x2.0) (32 ∷ decimal x3.0)) in
+    let low : x2.0 < x3.0 = omega (arith, b.low) in
+    let high : x3.0 < 2 ^ 63 = omega (arith, b.high) in
+    subst (λ (v : Window). (line ≡ window_line v) × IsSpan v) (same_Some (made_window x2.0 x3.0) w x3.2) (whole, (low, high))
+
+pub window_again : (w : Window) → IsSpan w → window_of (window_line w) ≡ Some w
+unfolding window_of
+window_again w is =
+    let free = decimal_lacks 32 w.first refl (omega (arith, is.0, is.1)) in
+    let one : split_first 32 (decimal w.first ++ 32 ∷ decimal w.last) ≡ Some (decimal w.first, decimal w.last) = split_again 32 (decimal w.first) (decimal w.last) free in
+    let two = number_again 0 9223372036854775807 w.first (omega arith) (omega arith) (omega (arith, is.0, is.1)) in
+    let three = number_again (w.first + 1) 9223372036854775807 w.last (omega arith) (omega (arith, is.0)) (omega (arith, is.1)) in
+    rw (one, two, three) refl
+
 -- ---- the order
 
 last_of : {X : Type 0} → List X → Option X
@@ -149,33 +217,49 @@ pub record ArePoints (db : Db) : Type 0 where
   pub points : All (IsPoint (length db.sources) db.instances) db.points
   pub rise : Rises by_address db.points
 
+-- the windows so far
+pub record AreSpans (db : Db) : Type 0 where
+  pub spans : All IsSpan db.windows
+  pub rise : Rises window_cmp db.windows
+
+pub no_windows : (db : Db) → db.windows ≡ [] → AreSpans db
+no_windows db none = record { spans = rw none (All-nil IsSpan); rise = rw none tt }
+
+-- a text of version 1 has no windows, and another says how many there are
+abbrev pub AreCounted : Version → List ℕ → Db → Type 0
+AreCounted version.One count db = db.windows ≡ []
+AreCounted version.Two count db = count ≡ decimal (length db.windows)
+
 -- sources so far
 pub record AreSources (db : Db) : Type 0 where
   pub top : IsIdentifier db.top
   pub sources : All (λ name. IsTrue (is_file_name name)) db.sources
   pub no_instance : db.instances ≡ []
   pub no_point : db.points ≡ []
+  pub no_window : db.windows ≡ []
 
 abbrev pub nothing : Db
-nothing = record { top = []; sources = []; instances = []; points = [] }
+nothing = record { top = []; sources = []; instances = []; points = []; windows = [] }
 
 -- what a draft of this stage has
 abbrev pub HasRead : Stage → Draft → Type 0
 HasRead stage.Version d = d.db ≡ nothing
 HasRead stage.Top d = d.db ≡ nothing
 HasRead stage.Sources d = AreSources d.db
-HasRead stage.Instances d = IsHead d.db × (d.db.points ≡ [])
-HasRead stage.Points d = IsHead d.db × ArePoints d.db × IsTrue (is_plain d.count)
-HasRead stage.End d = IsHead d.db × ArePoints d.db × (d.count ≡ decimal (length d.db.points))
+HasRead stage.Instances d = IsHead d.db × (d.db.points ≡ []) × (d.db.windows ≡ [])
+HasRead stage.Points d = IsHead d.db × ArePoints d.db × IsTrue (is_plain d.count) × (d.db.windows ≡ [])
+HasRead stage.Windows d = IsHead d.db × ArePoints d.db × AreSpans d.db × IsTrue (is_plain d.window_count) × (d.count ≡ decimal (length d.db.points)) × (d.version ≡ version.Two)
+HasRead stage.End d = IsHead d.db × ArePoints d.db × AreSpans d.db × (d.count ≡ decimal (length d.db.points)) × AreCounted d.version d.window_count d.db
 
 -- the lines that a draft of this stage has read
 abbrev pub lines_read : Stage → Draft → List (List ℕ)
 lines_read stage.Version d = []
-lines_read stage.Top d = codes "covered-db 1" ∷ []
-lines_read stage.Sources d = codes "covered-db 1" ∷ top_line d.db.top ∷ source_lines 1 d.db.sources
-lines_read stage.Instances d = head_lines d.db
-lines_read stage.Points d = head_lines d.db ++ count_line d.count ∷ map (point_line d.db.instances) d.db.points
-lines_read stage.End d = lines_with_count d.count d.db
+lines_read stage.Top d = version_line d.version ∷ []
+lines_read stage.Sources d = version_line d.version ∷ top_line d.db.top ∷ source_lines 1 d.db.sources
+lines_read stage.Instances d = head_lines d.version d.db
+lines_read stage.Points d = lines_to_points d.version d.count d.db
+lines_read stage.Windows d = lines_to_windows version.Two d.count d.window_count d.db
+lines_read stage.End d = lines_with_counts d.version d.count d.window_count d.db
 
 -- the draft has these lines
 pub record IsPart (d : Draft) (lines : List (List ℕ)) : Type 0 where
@@ -206,13 +290,11 @@ no_fault f x e = cc
 version_part : (n : ℕ) (d : Draft) (line : List ℕ) (new : Draft) → HasRead stage.Version d → next_version n d line ≡ Ok new → Adds (lines_read stage.Version d) line new
 unfolding next_version
 version_part n d line new has e =
-    elim (cases_Bool (bytes_eq line (codes "covered-db 1"))) [
-      | inl is ↦
-          let same : line ≡ codes "covered-db 1" = (bytes_eq-Decides line (codes "covered-db 1")).0 is in
-          made_is [] line (record d { stage = stage.Top }) new (rw is at e) (record { has = has; lines_are = ap (λ (l : List ℕ). l ∷ []) (sym same) })
-      | inr other ↦ elim (cases_Bool (is_version line)) [
-        | inl is ↦ absurd (no_fault _ new (rw (other, is) at e))
-        | inr none ↦ absurd (no_fault _ new (rw (other, none) at e))
+    elim (or_else_ok (version_of line) (λ v. Ok (record d { stage = stage.Top; version = v })) (cond (is_version line) (Err (At WrongVersion (Some n))) (bad n)) new e) [
+      | inl (v, found, made) ↦ made_is [] line (record d { stage = stage.Top; version = v }) new made (record { has = has; lines_are = ap (λ (l : List ℕ). l ∷ []) (sym (known_takes line v found)) })
+      | inr (none, other) ↦ elim (cases_Bool (is_version line)) [
+        | inl is ↦ absurd (no_fault _ new (rw is at other))
+        | inr no ↦ absurd (no_fault _ new (rw no at other))
       ]
     ]
 
@@ -225,9 +307,10 @@ top_part n d line new has e =
           let no_sources : d.db.sources ≡ [] = ap (λ (db : Db). db.sources) has in
           let no_instances : d.db.instances ≡ [] = ap (λ (db : Db). db.instances) has in
           let no_points : d.db.points ≡ [] = ap (λ (db : Db). db.points) has in
+          let none_yet : d.db.windows ≡ [] = ap (λ (db : Db). db.windows) has in
           let files : All (λ name. IsTrue (is_file_name name)) d.db.sources = rw no_sources (All-nil (λ (name : List ℕ). IsTrue (is_file_name name))) in
-          let lines : codes "covered-db 1" ∷ top_line top ∷ source_lines 1 d.db.sources ≡ codes "covered-db 1" ∷ line ∷ [] = rw (no_sources, t.0) refl in
-          made_is (codes "covered-db 1" ∷ []) line (record d { stage = stage.Sources; db = record d.db { top = top } }) new made (record { has = record { top = t.1; sources = files; no_instance = no_instances; no_point = no_points }; lines_are = lines })
+          let lines : version_line d.version ∷ top_line top ∷ source_lines 1 d.db.sources ≡ version_line d.version ∷ line ∷ [] = rw (no_sources, t.0) refl in
+          made_is (version_line d.version ∷ []) line (record d { stage = stage.Sources; db = record d.db { top = top } }) new made (record { has = record { top = t.1; sources = files; no_instance = no_instances; no_point = no_points; no_window = none_yet }; lines_are = lines })
       | inr (none, other) ↦ absurd (no_fault _ new other)
     ]
 
@@ -246,20 +329,20 @@ map_push_line f [] x = refl
 map_push_line f (y ∷ xs) x = ap (λ (ls : List (List ℕ)). f y ∷ ls) (map_push_line f xs x)
 
 -- the lines before the points, with one more instance
-head_push : (d : Db) (i : DbInstance) → head_lines (record d { instances = d.instances ++ i ∷ [] }) ≡ head_lines d ++ instance_line i ∷ []
-head_push d i = ap (λ (ls : List (List ℕ)). codes "covered-db 1" ∷ top_line d.top ∷ source_lines 1 d.sources ++ ls) (map_push_line instance_line d.instances i) ∙ sym (append_assoc (codes "covered-db 1" ∷ top_line d.top ∷ source_lines 1 d.sources) (map instance_line d.instances) (instance_line i ∷ []))
+head_push : (v : Version) (d : Db) (i : DbInstance) → head_lines v (record d { instances = d.instances ++ i ∷ [] }) ≡ head_lines v d ++ instance_line i ∷ []
+head_push v d i = ap (λ (ls : List (List ℕ)). version_line v ∷ top_line d.top ∷ source_lines 1 d.sources ++ ls) (map_push_line instance_line d.instances i) ∙ sym (append_assoc (version_line v ∷ top_line d.top ∷ source_lines 1 d.sources) (map instance_line d.instances) (instance_line i ∷ []))
 
-head_only_sources : (d : Db) → d.instances ≡ [] → head_lines d ≡ codes "covered-db 1" ∷ top_line d.top ∷ source_lines 1 d.sources
-head_only_sources d none = ap (λ (is : List DbInstance). codes "covered-db 1" ∷ top_line d.top ∷ source_lines 1 d.sources ++ map instance_line is) none ∙ append-nil (codes "covered-db 1" ∷ top_line d.top ∷ source_lines 1 d.sources)
+head_only_sources : (v : Version) (d : Db) → d.instances ≡ [] → head_lines v d ≡ version_line v ∷ top_line d.top ∷ source_lines 1 d.sources
+head_only_sources v d none = ap (λ (is : List DbInstance). version_line v ∷ top_line d.top ∷ source_lines 1 d.sources ++ map instance_line is) none ∙ append-nil (version_line v ∷ top_line d.top ∷ source_lines 1 d.sources)
 
 -- an instance that stands behind those so far
 abbrev following : List DbInstance → DbInstance → Option DbInstance
 following instances i = cond (follows by_path instances i) (Some i) None
 
-instance_part : (n : ℕ) (d : Draft) (line : List ℕ) (new : Draft) → IsIdentifier d.db.top → All (λ name. IsTrue (is_file_name name)) d.db.sources → d.db.sources ≢ [] → All IsInstance d.db.instances → Rises by_path d.db.instances → d.db.points ≡ []
-    → next_instance n d line ≡ Ok new → Adds (head_lines d.db) line new
+instance_part : (n : ℕ) (d : Draft) (line : List ℕ) (new : Draft) → IsIdentifier d.db.top → All (λ name. IsTrue (is_file_name name)) d.db.sources → d.db.sources ≢ [] → All IsInstance d.db.instances → Rises by_path d.db.instances → d.db.points ≡ [] → d.db.windows ≡ []
+    → next_instance n d line ≡ Ok new → Adds (head_lines d.version d.db) line new
 unfolding next_instance
-instance_part n d line new top files some instances rise no_points e =
+instance_part n d line new top files some instances rise no_points none_yet e =
     elim (or_else_ok (instance_at line >>= following d.db.instances) (λ i. Ok (with_instance d i)) (bad n) new e) [
       | inl (i, found, made) ↦
           let b = bind_some (instance_at line) (following d.db.instances) i found in
@@ -268,9 +351,9 @@ instance_part n d line new top files some instances rise no_points e =
           let follows_is : follows by_path d.db.instances i ≡ true = subst (λ (j : DbInstance). follows by_path d.db.instances j ≡ true) taken.1 taken.0 in
           let is : IsInstance i = subst IsInstance taken.1 t.1 in
           let line_is : line ≡ instance_line i = t.0 ∙ ap instance_line taken.1 in
-          made_is (head_lines d.db) line (with_instance d i) new made (record {
-            has = (record { top = top; sources = files; instances = All-push IsInstance d.db.instances i instances is; some_source = some; some_instance = not_empty d.db.instances i; rise = rises_push by_path d.db.instances i rise follows_is }, no_points);
-            lines_are = head_push d.db i ∙ ap (λ (l : List ℕ). head_lines d.db ++ l ∷ []) (sym line_is);
+          made_is (head_lines d.version d.db) line (with_instance d i) new made (record {
+            has = (record { top = top; sources = files; instances = All-push IsInstance d.db.instances i instances is; some_source = some; some_instance = not_empty d.db.instances i; rise = rises_push by_path d.db.instances i rise follows_is }, no_points, none_yet);
+            lines_are = head_push d.version d.db i ∙ ap (λ (l : List ℕ). head_lines d.version d.db ++ l ∷ []) (sym line_is);
           })
       | inr (none, other) ↦ absurd (no_fault _ new other)
     ]
@@ -284,14 +367,14 @@ source_part n d line new has at e =
     elim (or_else_ok (source_of (length d.db.sources + 1) line) (λ name. Ok (with_source d name)) (cond (eqb (length d.db.sources) 0) (bad n) (next_instance n d line)) new e) [
       | inl (name, found, made) ↦
           let t = source_takes (length d.db.sources + 1) line name found in
-          let part : HasRead stage.Sources (with_source d name) = record { top = has.top; sources = All-push (λ (x : List ℕ). IsTrue (is_file_name x)) d.db.sources name has.sources t.1; no_instance = has.no_instance; no_point = has.no_point } in
-          let lines : lines_read stage.Sources (with_source d name) ≡ lines_read stage.Sources d ++ line ∷ [] = ap (λ (ls : List (List ℕ)). codes "covered-db 1" ∷ top_line d.db.top ∷ ls) (sources_push 1 d.db.sources name ∙ ap (λ (l : List ℕ). source_lines 1 d.db.sources ++ l ∷ []) (sym t.0)) in
+          let part : HasRead stage.Sources (with_source d name) = record { top = has.top; sources = All-push (λ (x : List ℕ). IsTrue (is_file_name x)) d.db.sources name has.sources t.1; no_instance = has.no_instance; no_point = has.no_point; no_window = has.no_window } in
+          let lines : lines_read stage.Sources (with_source d name) ≡ lines_read stage.Sources d ++ line ∷ [] = ap (λ (ls : List (List ℕ)). version_line d.version ∷ top_line d.db.top ∷ ls) (sources_push 1 d.db.sources name ∙ ap (λ (l : List ℕ). source_lines 1 d.db.sources ++ l ∷ []) (sym t.0)) in
           made_is (lines_read stage.Sources d) line (with_source d name) new made (part_of stage.Sources (with_source d name) (lines_read stage.Sources d ++ line ∷ []) at part lines)
       | inr (none, other) ↦ elim (cases_Bool (eqb (length d.db.sources) 0)) [
         | inl empty ↦ absurd (no_fault _ new (rw empty at other))
         | inr some ↦
-            let p = instance_part n d line new has.top has.sources (some_length d.db.sources some) (rw has.no_instance (All-nil IsInstance)) (rw has.no_instance tt) has.no_point (rw some at other) in
-            subst (λ (ls : List (List ℕ)). Adds ls line new) (head_only_sources d.db has.no_instance) p
+            let p = instance_part n d line new has.top has.sources (some_length d.db.sources some) (rw has.no_instance (All-nil IsInstance)) (rw has.no_instance tt) has.no_point has.no_window (rw some at other) in
+            subst (λ (ls : List (List ℕ)). Adds ls line new) (head_only_sources d.version d.db has.no_instance) p
       ]
     ]
 
@@ -302,22 +385,39 @@ count_part n d line new has e =
       | inl (digits, found, made) ↦
           let t = count_takes line digits found in
           let points : ArePoints d.db = record { points = rw has.1 (All-nil (IsPoint (length d.db.sources) d.db.instances)); rise = rw has.1 tt } in
-          let lines : head_lines d.db ++ count_line digits ∷ map (point_line d.db.instances) d.db.points ≡ head_lines d.db ++ line ∷ [] = rw (has.1, t.0) refl in
-          made_is (head_lines d.db) line (record d { stage = stage.Points; count = digits }) new made (record { has = (has.0, points, t.1); lines_are = lines })
-      | inr (none, other) ↦ instance_part n d line new has.0.top has.0.sources has.0.some_source has.0.instances has.0.rise has.1 other
+          let lines : head_lines d.version d.db ++ count_line digits ∷ map (point_line d.db.instances) d.db.points ≡ head_lines d.version d.db ++ line ∷ [] = rw (has.1, t.0) refl in
+          made_is (head_lines d.version d.db) line (record d { stage = stage.Points; count = digits }) new made (record { has = (has.0, points, t.1, has.2); lines_are = lines })
+      | inr (none, other) ↦ instance_part n d line new has.0.top has.0.sources has.0.some_source has.0.instances has.0.rise has.1 has.2 other
     ]
 
-end_part : (n : ℕ) (d : Draft) (line : List ℕ) (new : Draft) → HasRead stage.Points d → next_end n d line ≡ Ok new → Adds (lines_read stage.Points d) line new
-unfolding next_end
-end_part n d line new has e =
+-- the end of a text of version 1, or the number of windows
+behind_part : (v : Version) (n : ℕ) (d : Draft) (line : List ℕ) (new : Draft) → d.version ≡ v → HasRead stage.Points d → d.count ≡ decimal (length d.db.points) → next_behind v n d line ≡ Ok new → Adds (lines_read stage.Points d) line new
+unfolding next_end next_window_count
+behind_part version.One n d line new at has counted e =
+    elim (cases_Bool (bytes_eq line (codes "end"))) [
+      | inl is ↦
+          let same : line ≡ codes "end" = (bytes_eq-Decides line (codes "end")).0 is in
+          let all : AreCounted d.version d.window_count d.db = subst (λ (w : Version). AreCounted w d.window_count d.db) (sym at) has.3 in
+          let lines : lines_with_counts d.version d.count d.window_count d.db ≡ lines_read stage.Points d ++ line ∷ [] =
+          ap (λ (w : Version). lines_with_counts w d.count d.window_count d.db) at ∙ ap (λ (l : List ℕ). lines_to_points version.One d.count d.db ++ l ∷ []) (sym same) ∙ ap (λ (w : Version). lines_to_points w d.count d.db ++ line ∷ []) (sym at) in
+          made_is (lines_read stage.Points d) line (record d { stage = stage.End }) new (rw is at e) (record { has = (has.0, has.1, no_windows d.db has.3, counted, all); lines_are = lines })
+      | inr other ↦ absurd (no_fault _ new (rw other at e))
+    ]
+behind_part version.Two n d line new at has counted e =
+    elim (or_else_ok (window_count_of line) (λ digits. Ok (record d { stage = stage.Windows; window_count = digits })) (bad n) new e) [
+      | inl (digits, found, made) ↦
+          let t = window_count_takes line digits found in
+          let lines : lines_to_windows version.Two d.count digits d.db ≡ lines_read stage.Points d ++ line ∷ [] =
+          ap (λ (ws : List Window). lines_to_points version.Two d.count d.db ++ window_count_line digits ∷ map window_line ws) has.3 ∙ ap (λ (l : List ℕ). lines_to_points version.Two d.count d.db ++ l ∷ []) (sym t.0) ∙ ap (λ (w : Version). lines_to_points w d.count d.db ++ line ∷ []) (sym at) in
+          made_is (lines_read stage.Points d) line (record d { stage = stage.Windows; window_count = digits }) new made (record { has = (has.0, has.1, no_windows d.db has.3, t.1, counted, at); lines_are = lines })
+      | inr (none, other) ↦ absurd (no_fault _ new other)
+    ]
+
+counted_part : (n : ℕ) (d : Draft) (line : List ℕ) (new : Draft) → HasRead stage.Points d → next_counted n d line ≡ Ok new → Adds (lines_read stage.Points d) line new
+unfolding next_counted
+counted_part n d line new has e =
     elim (cases_Bool (bytes_eq d.count (decimal (length d.db.points)))) [
-      | inl right ↦ elim (cases_Bool (bytes_eq line (codes "end"))) [
-        | inl is ↦
-            let same : line ≡ codes "end" = (bytes_eq-Decides line (codes "end")).0 is in
-            let counted : d.count ≡ decimal (length d.db.points) = (bytes_eq-Decides d.count (decimal (length d.db.points))).0 right in
-            made_is (lines_read stage.Points d) line (record d { stage = stage.End }) new (rw (right, is) at e) (record { has = (has.0, has.1, counted); lines_are = ap (λ (l : List ℕ). lines_read stage.Points d ++ l ∷ []) (sym same) })
-        | inr other ↦ absurd (no_fault _ new (rw (right, other) at e))
-      ]
+      | inl right ↦ behind_part d.version n d line new refl has ((bytes_eq-Decides d.count (decimal (length d.db.points))).0 right) (rw right at e)
       | inr wrong ↦ absurd (no_fault _ new (rw wrong at e))
     ]
 
@@ -340,12 +440,61 @@ point_part n d line new few has at e =
             let points : ArePoints (with_point d p).db = record { points = All-push (IsPoint (length d.db.sources) d.db.instances) d.db.points p has.1.points is; rise = rises_push by_address d.db.points p has.1.rise follows_is } in
             let head : IsHead (with_point d p).db = record { top = has.0.top; sources = has.0.sources; instances = has.0.instances; some_source = has.0.some_source; some_instance = has.0.some_instance; rise = has.0.rise } in
             let lines : lines_read stage.Points (with_point d p) ≡ lines_read stage.Points d ++ line ∷ [] =
-            ap (λ (ls : List (List ℕ)). head_lines d.db ++ count_line d.count ∷ ls) (map_push_line (point_line d.db.instances) d.db.points p ∙ ap (λ (l : List ℕ). map (point_line d.db.instances) d.db.points ++ l ∷ []) (sym line_is))
-            ∙ sym (append_assoc (head_lines d.db) (count_line d.count ∷ map (point_line d.db.instances) d.db.points) (line ∷ [])) in
-            made_is (lines_read stage.Points d) line (with_point d p) new made (part_of stage.Points (with_point d p) (lines_read stage.Points d ++ line ∷ []) at (head, points, has.2) lines)
+            ap (λ (ls : List (List ℕ)). head_lines d.version d.db ++ count_line d.count ∷ ls) (map_push_line (point_line d.db.instances) d.db.points p ∙ ap (λ (l : List ℕ). map (point_line d.db.instances) d.db.points ++ l ∷ []) (sym line_is))
+            ∙ sym (append_assoc (head_lines d.version d.db) (count_line d.count ∷ map (point_line d.db.instances) d.db.points) (line ∷ [])) in
+            made_is (lines_read stage.Points d) line (with_point d p) new made (part_of stage.Points (with_point d p) (lines_read stage.Points d ++ line ∷ []) at (head, points, has.2, has.3) lines)
         | inr (none, other) ↦ absurd (no_fault _ new other)
       ]
-      | inr other ↦ end_part n d line new has (rw other at e)
+      | inr other ↦ counted_part n d line new has (rw other at e)
+    ]
+
+end_part : (n : ℕ) (d : Draft) (line : List ℕ) (new : Draft) → HasRead stage.Windows d → d.window_count ≡ decimal (length d.db.windows) → next_end n d line ≡ Ok new → Adds (lines_read stage.Windows d) line new
+unfolding next_end
+end_part n d line new has counted e =
+    elim (cases_Bool (bytes_eq line (codes "end"))) [
+      | inl is ↦
+          let same : line ≡ codes "end" = (bytes_eq-Decides line (codes "end")).0 is in
+          let all : AreCounted d.version d.window_count d.db = subst (λ (w : Version). AreCounted w d.window_count d.db) (sym has.5) counted in
+          let lines : lines_with_counts d.version d.count d.window_count d.db ≡ lines_read stage.Windows d ++ line ∷ [] =
+          ap (λ (w : Version). lines_with_counts w d.count d.window_count d.db) has.5 ∙ ap (λ (l : List ℕ). lines_to_windows version.Two d.count d.window_count d.db ++ l ∷ []) (sym same) in
+          made_is (lines_read stage.Windows d) line (record d { stage = stage.End }) new (rw is at e) (record { has = (has.0, has.1, has.2, has.4, all); lines_are = lines })
+      | inr other ↦ absurd (no_fault _ new (rw other at e))
+    ]
+
+windows_counted_part : (n : ℕ) (d : Draft) (line : List ℕ) (new : Draft) → HasRead stage.Windows d → next_windows_counted n d line ≡ Ok new → Adds (lines_read stage.Windows d) line new
+unfolding next_windows_counted
+windows_counted_part n d line new has e =
+    elim (cases_Bool (bytes_eq d.window_count (decimal (length d.db.windows)))) [
+      | inl right ↦ end_part n d line new has ((bytes_eq-Decides d.window_count (decimal (length d.db.windows))).0 right) (rw right at e)
+      | inr wrong ↦ absurd (no_fault _ new (rw wrong at e))
+    ]
+
+-- a window that stands behind those so far
+abbrev following_window : List Window → Window → Option Window
+following_window windows w = cond (follows window_cmp windows w) (Some w) None
+
+window_part : (n : ℕ) (d : Draft) (line : List ℕ) (new : Draft) → HasRead stage.Windows d → d.stage ≡ stage.Windows → next_window n d line ≡ Ok new → Adds (lines_read stage.Windows d) line new
+unfolding next_window
+window_part n d line new has at e =
+    elim (cases_Bool (begins_window line)) [
+      | inl begins ↦ elim (or_else_ok (window_of line >>= following_window d.db.windows) (λ w. Ok (with_window d w)) (bad n) new (rw begins at e)) [
+        | inl (w, found, made) ↦
+            let b = bind_some (window_of line) (following_window d.db.windows) w found in
+            let taken = cond_some (follows window_cmp d.db.windows b.0) b.0 w b.2 in
+            let t = window_takes line b.0 b.1 in
+            let follows_is : follows window_cmp d.db.windows w ≡ true = subst (λ (j : Window). follows window_cmp d.db.windows j ≡ true) taken.1 taken.0 in
+            let is : IsSpan w = subst IsSpan taken.1 t.1 in
+            let line_is : line ≡ window_line w = t.0 ∙ ap window_line taken.1 in
+            let windows : AreSpans (with_window d w).db = record { spans = All-push IsSpan d.db.windows w has.2.spans is; rise = rises_push window_cmp d.db.windows w has.2.rise follows_is } in
+            let points : ArePoints (with_window d w).db = record { points = has.1.points; rise = has.1.rise } in
+            let head : IsHead (with_window d w).db = record { top = has.0.top; sources = has.0.sources; instances = has.0.instances; some_source = has.0.some_source; some_instance = has.0.some_instance; rise = has.0.rise } in
+            let lines : lines_read stage.Windows (with_window d w) ≡ lines_read stage.Windows d ++ line ∷ [] =
+            ap (λ (ls : List (List ℕ)). lines_to_points version.Two d.count d.db ++ window_count_line d.window_count ∷ ls) (map_push_line window_line d.db.windows w ∙ ap (λ (l : List ℕ). map window_line d.db.windows ++ l ∷ []) (sym line_is))
+            ∙ sym (append_assoc (lines_to_points version.Two d.count d.db) (window_count_line d.window_count ∷ map window_line d.db.windows) (line ∷ [])) in
+            made_is (lines_read stage.Windows d) line (with_window d w) new made (part_of stage.Windows (with_window d w) (lines_read stage.Windows d ++ line ∷ []) at (head, points, windows, has.3, has.4, has.5) lines)
+        | inr (none, other) ↦ absurd (no_fault _ new other)
+      ]
+      | inr other ↦ windows_counted_part n d line new has (rw other at e)
     ]
 
 part_at : (s : Stage) (n : ℕ) (d : Draft) (line : List ℕ) (new : Draft) → d.stage ≡ s → length d.db.sources < 2 ^ 32 → HasRead s d → next_at s n d line ≡ Ok new → Adds (lines_read s d) line new
@@ -354,6 +503,7 @@ part_at stage.Top n d line new at few has e = top_part n d line new has e
 part_at stage.Sources n d line new at few has e = source_part n d line new has at e
 part_at stage.Instances n d line new at few has e = count_part n d line new has e
 part_at stage.Points n d line new at few has e = point_part n d line new few has at e
+part_at stage.Windows n d line new at few has e = window_part n d line new has at e
 part_at stage.End n d line new at few has e = absurd (no_fault _ new e)
 
 -- one more line

@@ -16,10 +16,13 @@ use Rattle.coverage_db.specs.declared.db.DbInstance.{DbInstance}
 use Rattle.coverage_db.specs.declared.db.DbPoint.{DbPoint}
 use Rattle.coverage_db.specs.declared.verdict.DbVerdict.{DbVerdict}
 use Rattle.coverage_db.specs.declared.verdict.DbVerdict.TheVariants.{Hit, Missed, Undetermined}
+use Rattle.coverage_db.specs.declared.window.Window.{Window}
 use Rattle.coverage_db.specs.Merge.{bare_lines, doubt_cmp, lesser, joined, merged_points, merged, merged_all, verdict_at, HitInOne}
 use Rattle.coverage_db.specs.Order.{bytes_cmp}
 use Rattle.coverage_db.specs.Table.{IsTable}
+use Rattle.coverage_db.specs.Windows.{joined_windows}
 use Rattle.coverage_db.proofs.MergeLaws.{same_alike}
+use Rattle.coverage_db.proofs.WindowLaws.{windows_comm, windows_assoc, windows_itself}
 
 -- ---- doubts
 
@@ -145,22 +148,28 @@ points_itself : (ps : List DbPoint) → merged_points ps ps ≡ ps
 points_itself [] = refl
 points_itself (p ∷ ps) = cons_point (ap (made p.address) (joined_itself p.verdict)) (points_itself ps)
 
-abbrev db_of : List ℕ → List (List ℕ) → List DbInstance → List DbPoint → Db
-db_of top sources instances points = record { top = top; sources = sources; instances = instances; points = points }
+abbrev db_of : List ℕ → List (List ℕ) → List DbInstance → List DbPoint → List Window → Db
+db_of top sources instances points windows = record { top = top; sources = sources; instances = instances; points = points; windows = windows }
 
 pub merged_comm : (a b : Db) → IsTable a → IsTable b → bare_lines a ≡ bare_lines b → merged a b ≡ merged b a
 merged_comm a b p q same =
     let k = same_alike a b p q same in
-    ap (λ (t : List ℕ). db_of t a.sources a.instances (merged_points a.points b.points)) k.top
-    ∙ ap (λ (s : List (List ℕ)). db_of b.top s a.instances (merged_points a.points b.points)) k.sources
-    ∙ ap (λ (i : List DbInstance). db_of b.top b.sources i (merged_points a.points b.points)) k.instances
-    ∙ ap (db_of b.top b.sources b.instances) (points_comm a.points b.points k.addresses)
+    let windows : List Window = joined_windows a.windows b.windows in
+    ap (λ (t : List ℕ). db_of t a.sources a.instances (merged_points a.points b.points) windows) k.top
+    ∙ ap (λ (s : List (List ℕ)). db_of b.top s a.instances (merged_points a.points b.points) windows) k.sources
+    ∙ ap (λ (i : List DbInstance). db_of b.top b.sources i (merged_points a.points b.points) windows) k.instances
+    ∙ ap (λ (ps : List DbPoint). db_of b.top b.sources b.instances ps windows) (points_comm a.points b.points k.addresses)
+    ∙ ap (db_of b.top b.sources b.instances (merged_points b.points a.points)) (windows_comm a.windows b.windows)
 
 pub merged_assoc : (a b c : Db) → merged (merged a b) c ≡ merged a (merged b c)
-merged_assoc a b c = ap (db_of a.top a.sources a.instances) (points_assoc a.points b.points c.points)
+merged_assoc a b c =
+    ap (λ (ps : List DbPoint). db_of a.top a.sources a.instances ps (joined_windows (joined_windows a.windows b.windows) c.windows)) (points_assoc a.points b.points c.points)
+    ∙ ap (db_of a.top a.sources a.instances (merged_points a.points (merged_points b.points c.points))) (windows_assoc a.windows b.windows c.windows)
 
-pub merged_itself : (a : Db) → merged a a ≡ a
-merged_itself a = ap (db_of a.top a.sources a.instances) (points_itself a.points)
+pub merged_itself : (a : Db) → IsTable a → merged a a ≡ a
+merged_itself a table =
+    ap (λ (ps : List DbPoint). db_of a.top a.sources a.instances ps (joined_windows a.windows a.windows)) (points_itself a.points)
+    ∙ ap (db_of a.top a.sources a.instances a.points) (windows_itself a.windows table.windows.rise)
 
 -- ---- a point is hit where one table has it hit
 

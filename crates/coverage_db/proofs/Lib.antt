@@ -12,5 +12,6 @@ pub mod ReadingLaws
 pub mod BareLines
 pub mod Differing
 pub mod SameLaws
+pub mod WindowLaws
 pub mod MergeLaws
 pub mod JoinLaws

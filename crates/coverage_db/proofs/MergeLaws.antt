@@ -15,16 +15,19 @@ use Rattle.coverage_db.specs.declared.db.DbInstance.{DbInstance}
 use Rattle.coverage_db.specs.declared.db.DbPoint.{DbPoint}
 use Rattle.coverage_db.specs.declared.verdict.DbVerdict.{DbVerdict}
 use Rattle.coverage_db.specs.declared.verdict.DbVerdict.TheVariants.{Hit, Missed, Undetermined}
+use Rattle.coverage_db.specs.declared.version.Version.TheVariants.{Two}
 use Rattle.coverage_db.specs.Drafting.{source_of, instance_at}
 use Rattle.coverage_db.specs.Merge.{first_other, if_other, difference_of, bare_lines, line_at, lines_from_count, lines_from_instances, lines_from_sources, DiffersAt, doubt_cmp, joined, merged_points, merged}
 use Rattle.coverage_db.specs.Reading.{point_of}
 use Rattle.coverage_db.specs.Same.{same_address, same_instance, same_point}
 use Rattle.coverage_db.specs.Table.{Rises, IsInstance, IsPoint, IsVerdict, IsTable, is_file_name}
-use Rattle.coverage_db.specs.Text.{top_line, source_line, source_lines, instance_line, count_line, address_text, point_line, letter}
+use Rattle.coverage_db.specs.Text.{version_line, top_line, source_line, source_lines, instance_line, count_line, address_text, point_line, letter}
+use Rattle.coverage_db.specs.Windows.{joined_windows}
 use Rattle.coverage_db.proofs.Differing.{IsFirstOther, heads_differ, front_same, numbered, numbered_map, AreLines, items_differ, mapped_same, list_same}
 use Rattle.coverage_db.proofs.DraftLaws.{by_address, source_again, instance_line_again}
 use Rattle.coverage_db.proofs.PathSearch.{by_path, same_path}
 use Rattle.coverage_db.proofs.PointLaws.{point_again}
+use Rattle.coverage_db.proofs.WindowLaws.{joined_rises, joined_valid as windows_valid}
 use Rattle.coverage_db.proofs.SameLaws.{address_same, instance_same, self_address, self_instance}
 
 -- ---- tables of one design
@@ -185,7 +188,7 @@ starts (i ∷ instances) lines some = record { first = i; rest = map instance_li
 top_differs : (left right : Db) → bytes_eq left.top right.top ≡ false → IsFirstOther (bare_lines left) (bare_lines right) 1
 top_differs left right e =
     let differ : top_line left.top ≢ top_line right.top = λ same. unlike left.top right.top e (let one : left.top ≡ right.top = cc in one) in
-    front_same (codes "covered-db 1" ∷ []) (top_line left.top ∷ lines_from_sources left) (top_line right.top ∷ lines_from_sources right) 0 (heads_differ (top_line left.top) (top_line right.top) (lines_from_sources left) (lines_from_sources right) differ)
+    front_same (version_line Two ∷ []) (top_line left.top ∷ lines_from_sources left) (top_line right.top ∷ lines_from_sources right) 0 (heads_differ (top_line left.top) (top_line right.top) (lines_from_sources left) (lines_from_sources right) differ)
 
 sources_differ : (left right : Db) (place : ℕ) → IsTable left → IsTable right → left.top ≡ right.top → first_other bytes_eq left.sources right.sources ≡ Some place → IsFirstOther (bare_lines left) (bare_lines right) (2 + place)
 sources_differ left right place p q top e =
@@ -196,11 +199,11 @@ sources_differ left right place p q top e =
     let both = subst (λ (ls : List (List ℕ)). IsFirstOther (source_lines 1 left.sources ++ instance_line a.first ∷ a.rest) (ls ++ instance_line b.first ∷ b.rest) place) (sym (numbered_sources 1 right.sources)) named in
     let one = subst (λ (ls : List (List ℕ)). IsFirstOther (source_lines 1 left.sources ++ ls) (source_lines 1 right.sources ++ instance_line b.first ∷ b.rest) place) (sym a.is) both in
     let two = subst (λ (ls : List (List ℕ)). IsFirstOther (lines_from_sources left) (source_lines 1 right.sources ++ ls) place) (sym b.is) one in
-    subst (λ (t : List ℕ). IsFirstOther (bare_lines left) (codes "covered-db 1" ∷ top_line t ∷ lines_from_sources right) (2 + place)) top (front_same (codes "covered-db 1" ∷ top_line left.top ∷ []) (lines_from_sources left) (lines_from_sources right) place two)
+    subst (λ (t : List ℕ). IsFirstOther (bare_lines left) (version_line Two ∷ top_line t ∷ lines_from_sources right) (2 + place)) top (front_same (version_line Two ∷ top_line left.top ∷ []) (lines_from_sources left) (lines_from_sources right) place two)
 
 -- the lines before the instances
 front_of : Db → List (List ℕ)
-front_of db = codes "covered-db 1" ∷ top_line db.top ∷ source_lines 1 db.sources
+front_of db = version_line Two ∷ top_line db.top ∷ source_lines 1 db.sources
 
 front_is : (left right : Db) → left.top ≡ right.top → left.sources ≡ right.sources → front_of left ≡ front_of right
 unfolding front_of
@@ -350,8 +353,8 @@ merged_short [] qs = omega arith
 merged_short (a ∷ ps) [] = omega arith
 merged_short (a ∷ ps) (b ∷ qs) = omega (arith, merged_short ps qs)
 
-pub merged_table : (left right : Db) → IsTable left → IsTable right → Alike left right → IsTable (merged left right)
-merged_table left right p q a =
+pub merged_table : (left right : Db) → IsTable left → IsTable right → Alike left right → length (joined_windows left.windows right.windows) < 2 ^ 64 → IsTable (merged left right)
+merged_table left right p q a few =
     let points : All (IsPoint (length left.sources) left.instances) right.points = subst (λ (n : ℕ). All (IsPoint n left.instances) right.points) (ap (λ (ss : List (List ℕ)). length ss) (sym a.sources)) (subst (λ (is : List DbInstance). All (IsPoint (length right.sources) is) right.points) (sym a.instances) q.points) in
     record {
       top = p.top;
@@ -363,4 +366,5 @@ merged_table left right p q a =
       instances_rise = p.instances_rise;
       points_rise = merged_rise left.points right.points p.points_rise;
       lines = omega (arith, p.lines, merged_short left.points right.points);
+      windows = record { spans = windows_valid left.windows right.windows p.windows.spans q.windows.spans; rise = joined_rises left.windows right.windows; few = few };
     }

@@ -15,11 +15,15 @@ use Rattle.coverage_db.specs.declared.draft.Stage.TheVariants as stage
 use Rattle.coverage_db.specs.declared.fault.DbFault.{DbFault}
 use Rattle.coverage_db.specs.declared.fault.DbFault.TheVariants.{At, NoMemory}
 use Rattle.coverage_db.specs.declared.fault.DbKind.TheVariants.{BadLine, WrongVersion, WrongCount}
-use Rattle.coverage_db.specs.Fields.{◌>>=◌, split_first, behind, is_plain}
+use Rattle.coverage_db.specs.declared.version.Version.{Version}
+use Rattle.coverage_db.specs.declared.version.Version.TheVariants as version
+use Rattle.coverage_db.specs.declared.window.Window.{Window}
+use Rattle.coverage_db.specs.Fields.{◌>>=◌, split_first, behind, is_plain, number_of}
 use Rattle.coverage_db.specs.Order.{bytes_cmp, address_cmp}
 use Rattle.coverage_db.specs.Reading.{point_of}
 use Rattle.coverage_db.specs.Table.{Rises, is_path, is_file_name}
-use Rattle.coverage_db.specs.Text.{begins_point, lines_of}
+use Rattle.coverage_db.specs.Text.{begins_point, begins_window, lines_of}
+use Rattle.coverage_db.specs.Windows.{window_cmp}
 
 -- what a function returned and left is what reading gives, unless memory ran out
 abbrev pub StepsTo : {X : Type 0} → Result X DbFault → Draft → Result Draft DbFault → Type 0
@@ -35,7 +39,11 @@ Returns (Err (At kind line)) step = step ≡ Err (At kind line)
 
 -- ---- the lines before the points
 
--- the version is another number
+-- the version that is read
+unfoldable pub version_of : List ℕ → Option Version
+version_of line = if bytes_eq line (codes "covered-db 2") then Some version.Two else if bytes_eq line (codes "covered-db 1") then Some version.One else None
+
+-- the line of a version
 abbrev pub is_version : List ℕ → Bool
 is_version line = is_some (behind (codes "covered-db ") line >>= λ digits. if is_plain digits then Some digits else None)
 
@@ -64,6 +72,20 @@ count_of line = do
   digits ← behind (codes "points ") line
   if is_plain digits then Some digits else None
 
+-- the digits of the number of windows
+unfoldable pub window_count_of : List ℕ → Option (List ℕ)
+window_count_of line = do
+  digits ← behind (codes "windows ") line
+  if is_plain digits then Some digits else None
+
+unfoldable pub window_of : List ℕ → Option Window
+window_of line = do
+  times ← behind (codes "window ") line
+  parts ← split_first 32 times
+  first ← number_of 0 9223372036854775807 parts.0
+  last ← number_of (first + 1) 9223372036854775807 parts.1
+  Some (record { first = first; last = last })
+
 -- an item may follow these
 abbrev pub after_last : {X : Type 0} → (X → X → Ordering) → Option X → X → Bool
 after_last cmp None item = true
@@ -90,9 +112,12 @@ with_instance draft instance = record draft { stage = stage.Instances; db = reco
 abbrev pub with_point : Draft → DbPoint → Draft
 with_point draft point = record draft { db = record draft.db { points = draft.db.points ++ point ∷ [] } }
 
+abbrev pub with_window : Draft → Window → Draft
+with_window draft window = record draft { db = record draft.db { windows = draft.db.windows ++ window ∷ [] } }
+
 unfoldable pub next_version : ℕ → Draft → List ℕ → Result Draft DbFault
 next_version number draft line =
-    if bytes_eq line (codes "covered-db 1") then Ok (record draft { stage = stage.Top }) else if is_version line then Err (At WrongVersion (Some number)) else bad number
+    or_else (version_of line) (λ v. Ok (record draft { stage = stage.Top; version = v })) (if is_version line then Err (At WrongVersion (Some number)) else bad number)
 
 unfoldable pub next_top : ℕ → Draft → List ℕ → Result Draft DbFault
 next_top number draft line = or_else (top_of line) (λ top. Ok (record draft { stage = stage.Sources; db = record draft.db { top = top } })) (bad number)
@@ -111,17 +136,42 @@ next_source number draft line =
 unfoldable pub next_count : ℕ → Draft → List ℕ → Result Draft DbFault
 next_count number draft line = or_else (count_of line) (λ digits. Ok (record draft { stage = stage.Points; count = digits })) (next_instance number draft line)
 
--- the end, where the number of points is right
+-- the end
 unfoldable pub next_end : ℕ → Draft → List ℕ → Result Draft DbFault
-next_end number draft line =
-    if bytes_eq draft.count (decimal (length draft.db.points)) then (if bytes_eq line (codes "end") then Ok (record draft { stage = stage.End }) else bad number)
+next_end number draft line = if bytes_eq line (codes "end") then Ok (record draft { stage = stage.End }) else bad number
+
+-- the number of windows
+unfoldable pub next_window_count : ℕ → Draft → List ℕ → Result Draft DbFault
+next_window_count number draft line = or_else (window_count_of line) (λ digits. Ok (record draft { stage = stage.Windows; window_count = digits })) (bad number)
+
+-- what a text of this version has behind its points
+abbrev pub next_behind : Version → ℕ → Draft → List ℕ → Result Draft DbFault
+next_behind version.One number draft line = next_end number draft line
+next_behind version.Two number draft line = next_window_count number draft line
+
+-- what is behind the points, where their number is right
+unfoldable pub next_counted : ℕ → Draft → List ℕ → Result Draft DbFault
+next_counted number draft line =
+    if bytes_eq draft.count (decimal (length draft.db.points)) then next_behind draft.version number draft line
     else Err (At WrongCount (Some (3 + length draft.db.sources + length draft.db.instances)))
 
 -- the next point, which comes after those so far
 unfoldable pub next_point : ℕ → Draft → List ℕ → Result Draft DbFault
 next_point number draft line =
     if begins_point line then or_else (point_of (length draft.db.sources) draft.db.instances line >>= λ p. if follows (λ a b. address_cmp a.address b.address) draft.db.points p then Some p else None) (λ p. Ok (with_point draft p)) (bad number)
-    else next_end number draft line
+    else next_counted number draft line
+
+-- the end, where the number of windows is right
+unfoldable pub next_windows_counted : ℕ → Draft → List ℕ → Result Draft DbFault
+next_windows_counted number draft line =
+    if bytes_eq draft.window_count (decimal (length draft.db.windows)) then next_end number draft line
+    else Err (At WrongCount (Some (4 + length draft.db.sources + length draft.db.instances + length draft.db.points)))
+
+-- the next window, which comes after those so far
+unfoldable pub next_window : ℕ → Draft → List ℕ → Result Draft DbFault
+next_window number draft line =
+    if begins_window line then or_else (window_of line >>= λ w. if follows window_cmp draft.db.windows w then Some w else None) (λ w. Ok (with_window draft w)) (bad number)
+    else next_windows_counted number draft line
 
 abbrev pub next_at : Stage → ℕ → Draft → List ℕ → Result Draft DbFault
 next_at stage.Version number draft line = next_version number draft line
@@ -129,6 +179,7 @@ next_at stage.Top number draft line = next_top number draft line
 next_at stage.Sources number draft line = next_source number draft line
 next_at stage.Instances number draft line = next_count number draft line
 next_at stage.Points number draft line = next_point number draft line
+next_at stage.Windows number draft line = next_window number draft line
 next_at stage.End number draft line = bad number
 
 abbrev pub next : ℕ → Draft → List ℕ → Result Draft DbFault
@@ -153,12 +204,12 @@ read_lines number draft (line ∷ next_line ∷ lines) = and_then (next number d
 
 -- what reading needs of a draft
 pub record IsDraft (draft : Draft) : Type 0 where
-  pub few : 3 + length draft.db.sources + length draft.db.instances < 2 ^ 32
+  pub few : 4 + length draft.db.sources + length draft.db.instances + length draft.db.points < 2 ^ 32
   pub rising : Rises (λ a b. bytes_cmp a.path b.path) draft.db.instances
 
 -- nothing has been read
 abbrev pub start : Global → Draft
-start alloc = record { alloc = alloc; stage = stage.Version; count = []; db = record { top = []; sources = []; instances = []; points = [] } }
+start alloc = record { alloc = alloc; stage = stage.Version; version = version.Two; count = []; window_count = []; db = record { top = []; sources = []; instances = []; points = []; windows = [] } }
 
 -- the table of a text, or the first fault
 abbrev pub reading : Global → List ℕ → Result Db DbFault

@@ -1,4 +1,5 @@
 pub mod Order
+pub mod Windows
 pub mod Table
 pub mod Text
 pub mod Fields
@@ -7,4 +8,5 @@ pub mod Views
 pub mod Drafting
 pub mod Faults
 pub mod Same
+pub mod Joining
 pub mod Merge

@@ -8,9 +8,11 @@ use Rattle.coverage_db.specs.declared.fault.MergeFault.{MergeFault}
 use Rattle.coverage_db.specs.declared.fault.MergeFault.TheVariants.{DesignsDiffer, NoMemory}
 use Rattle.coverage_db.specs.declared.verdict.DbVerdict.{DbVerdict}
 use Rattle.coverage_db.specs.declared.verdict.DbVerdict.TheVariants.{Hit, Missed, Undetermined}
+use Rattle.coverage_db.specs.declared.version.Version.TheVariants.{Two}
 use Rattle.coverage_db.specs.Order.{bytes_cmp}
 use Rattle.coverage_db.specs.Same.{same_instance, same_point}
-use Rattle.coverage_db.specs.Text.{top_line, source_lines, instance_line, count_line, address_text}
+use Rattle.coverage_db.specs.Text.{version_line, top_line, source_lines, instance_line, count_line, address_text}
+use Rattle.coverage_db.specs.Windows.{joined_windows}
 
 -- by time, and then by the bytes of the path
 abbrev pub doubt_cmp : ℕ → List ℕ → ℕ → List ℕ → Ordering
@@ -43,16 +45,16 @@ merged_points [] others = []
 merged_points (p ∷ points) [] = []
 merged_points (p ∷ points) (q ∷ others) = record p { verdict = joined p.verdict q.verdict } ∷ merged_points points others
 
--- the merge of two tables
+-- the merge of two tables: the first with the joined verdicts, and with the windows of both
 abbrev pub merged : Db → Db → Db
-merged left right = record left { points = merged_points left.points right.points }
+merged left right = record left { points = merged_points left.points right.points; windows = joined_windows left.windows right.windows }
 
 -- the merge of a table with others, one after the other
 abbrev pub merged_all : Db → List Db → Db
 merged_all first [] = first
 merged_all first (db ∷ others) = merged_all (merged first db) others
 
--- the lines of a table, each point without its verdict
+-- the lines of a table, each point without its verdict, and without the windows
 abbrev pub lines_from_count : Db → List (List ℕ)
 lines_from_count db = count_line (decimal (length db.points)) ∷ map (λ p. address_text db.instances p.address) db.points ++ codes "end" ∷ []
 
@@ -63,13 +65,13 @@ abbrev pub lines_from_sources : Db → List (List ℕ)
 lines_from_sources db = source_lines 1 db.sources ++ lines_from_instances db
 
 abbrev pub bare_lines : Db → List (List ℕ)
-bare_lines db = codes "covered-db 1" ∷ top_line db.top ∷ lines_from_sources db
+bare_lines db = version_line Two ∷ top_line db.top ∷ lines_from_sources db
 
 -- the line at a place, and `end` for a place after the last one
 abbrev pub line_at : List (List ℕ) → ℕ → List ℕ
 line_at lines place = unwrap_or (slice_get lines place) (codes "end")
 
--- the texts agree outside verdicts
+-- the texts agree outside verdicts and windows
 abbrev pub SameDesign : Db → Db → Type 0
 SameDesign left right = bare_lines left ≡ bare_lines right
 

@@ -14,7 +14,9 @@ use Rattle.coverage_db.specs.declared.db.DbInstance.{DbInstance}
 use Rattle.coverage_db.specs.declared.db.DbPoint.{DbPoint}
 use Rattle.coverage_db.specs.declared.verdict.DbVerdict.{DbVerdict}
 use Rattle.coverage_db.specs.declared.verdict.DbVerdict.TheVariants.{Hit, Missed, Undetermined}
+use Rattle.coverage_db.specs.declared.window.Window.{Window}
 use Rattle.coverage_db.specs.Order.{bytes_cmp, address_cmp}
+use Rattle.coverage_db.specs.Windows.{window_cmp}
 use Rattle.point_words.specs.Words.{can_have}
 
 -- each item comes before the next one
@@ -78,6 +80,16 @@ pub record IsPoint (sources : ℕ) (instances : List DbInstance) (point : DbPoin
   pub subject : IsSubject sources point.address.subject
   pub verdict : IsVerdict instances point.verdict
 
+-- the window ends after it begins
+abbrev pub IsSpan : Window → Type 0
+IsSpan window = (window.first < window.last) × (window.last < 2 ^ 63)
+
+-- windows that rise
+pub record AreWindows (windows : List Window) : Type 0 where
+  pub spans : All IsSpan windows
+  pub rise : Rises window_cmp windows
+  pub few : length windows < 2 ^ 64
+
 -- the table has a text
 pub record IsTable (db : Db) : Type 0 where
   pub top : IsIdentifier db.top
@@ -89,3 +101,4 @@ pub record IsTable (db : Db) : Type 0 where
   pub instances_rise : Rises (λ a b. bytes_cmp a.path b.path) db.instances
   pub points_rise : Rises (λ a b. address_cmp a.address b.address) db.points
   pub lines : 3 + length db.sources + length db.instances + length db.points < 2 ^ 32
+  pub windows : AreWindows db.windows

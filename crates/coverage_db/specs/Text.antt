@@ -1,8 +1,8 @@
--- The text of a table.
+-- The text of a table, and that of version 1.
 -- Bytes are written as numbers: 10 line feed, 32 space, 58 colon.
-use Rattle.std.specs.Prelude.{ℕ, ◌+◌, List, [], ◌∷◌, ◌++◌, length, map, codes, decimal, Bool, true, false, ◌&&◌, ◌||◌, ◌==◌, Option, Some, None, unwrap_or, slice_get}
+use Rattle.std.specs.Prelude.{◌≡◌, ◌⊎◌, ℕ, ◌+◌, List, [], ◌∷◌, ◌++◌, length, map, codes, decimal, Bool, true, false, ◌&&◌, ◌||◌, ◌==◌, Option, Some, None, unwrap_or, slice_get}
 use Rattle.std.specs.List.{flat_map, slice_split}
-use Rattle.std.specs.Option.{option_map}
+use Rattle.std.specs.Option.{is_some, option_map}
 use Rattle.coverage_db.specs.declared.address.Address.{Address}
 use Rattle.coverage_db.specs.declared.address.SourceLine.{SourceLine}
 use Rattle.coverage_db.specs.declared.address.Subject.{Subject}
@@ -12,6 +12,10 @@ use Rattle.coverage_db.specs.declared.db.DbInstance.{DbInstance}
 use Rattle.coverage_db.specs.declared.db.DbPoint.{DbPoint}
 use Rattle.coverage_db.specs.declared.verdict.DbVerdict.{DbVerdict}
 use Rattle.coverage_db.specs.declared.verdict.DbVerdict.TheVariants.{Hit, Missed, Undetermined}
+use Rattle.coverage_db.specs.declared.version.Version.{Version}
+use Rattle.coverage_db.specs.declared.version.Version.TheVariants.{One, Two}
+use Rattle.coverage_db.specs.declared.window.Window.{Window}
+use Rattle.coverage_db.specs.Fields.{behind}
 use Rattle.point_words.specs.Words.{line_word_text, node_case_text, operator_text}
 
 -- a line ends in one line feed
@@ -77,6 +81,10 @@ verdict_text (Undetermined time path) = codes "? " ++ decimal time ++ 32 ∷ pat
 abbrev pub point_line : List DbInstance → DbPoint → List ℕ
 point_line instances point = address_text instances point.address ++ codes " = " ++ verdict_text point.verdict
 
+abbrev pub version_line : Version → List ℕ
+version_line One = codes "covered-db 1"
+version_line Two = codes "covered-db 2"
+
 abbrev pub top_line : List ℕ → List ℕ
 top_line top = codes "top " ++ top
 
@@ -95,13 +103,29 @@ instance_line instance = codes "instance " ++ instance.path ++ 32 ∷ instance.m
 abbrev pub count_line : List ℕ → List ℕ
 count_line count = codes "points " ++ count
 
--- the lines before the count of the points
-abbrev pub head_lines : Db → List (List ℕ)
-head_lines db = codes "covered-db 1" ∷ top_line db.top ∷ source_lines 1 db.sources ++ map instance_line db.instances
+-- the digits of the number of windows
+abbrev pub window_count_line : List ℕ → List ℕ
+window_count_line count = codes "windows " ++ count
 
--- all lines, with these digits for the number of points
-abbrev pub lines_with_count : List ℕ → Db → List (List ℕ)
-lines_with_count count db = head_lines db ++ count_line count ∷ map (point_line db.instances) db.points ++ codes "end" ∷ []
+abbrev pub window_line : Window → List ℕ
+window_line window = codes "window " ++ decimal window.first ++ 32 ∷ decimal window.last
+
+-- the lines before the count of the points
+abbrev pub head_lines : Version → Db → List (List ℕ)
+head_lines version db = version_line version ∷ top_line db.top ∷ source_lines 1 db.sources ++ map instance_line db.instances
+
+-- the lines up to the last point, with these digits for the number of points
+abbrev pub lines_to_points : Version → List ℕ → Db → List (List ℕ)
+lines_to_points version count db = head_lines version db ++ count_line count ∷ map (point_line db.instances) db.points
+
+-- the lines up to the last window, with these digits for the numbers of points and of windows; version 1 has no windows
+abbrev pub lines_to_windows : Version → List ℕ → List ℕ → Db → List (List ℕ)
+lines_to_windows One points windows db = lines_to_points One points db
+lines_to_windows Two points windows db = lines_to_points Two points db ++ window_count_line windows ∷ map window_line db.windows
+
+-- all lines, with these digits for the numbers of points and of windows
+abbrev pub lines_with_counts : Version → List ℕ → List ℕ → Db → List (List ℕ)
+lines_with_counts version points windows db = lines_to_windows version points windows db ++ codes "end" ∷ []
 
 -- one of `l`, `c`, `t`, `f` and `m`, and a space
 abbrev pub begins_point : List ℕ → Bool
@@ -109,13 +133,25 @@ begins_point [] = false
 begins_point (letter ∷ []) = false
 begins_point (letter ∷ space ∷ others) = (letter == 108 || letter == 99 || letter == 116 || letter == 102 || letter == 109) && space == 32
 
+-- `window` and a space
+abbrev pub begins_window : List ℕ → Bool
+begins_window line = is_some (behind (codes "window ") line)
+
 -- each line with its line feed
 abbrev pub text_of_lines : List (List ℕ) → List ℕ
 text_of_lines lines = flat_map ended lines
 
+-- the text of a table in this version
+abbrev pub text_in : Version → Db → List ℕ
+text_in version db = text_of_lines (lines_with_counts version (decimal (length db.points)) (decimal (length db.windows)) db)
+
 -- the text of a table
 abbrev pub text_of : Db → List ℕ
-text_of db = text_of_lines (lines_with_count (decimal (length db.points)) db)
+text_of db = text_in Two db
+
+-- the text is the table's, or that of version 1 of a table without windows
+abbrev pub IsTextOf : Db → List ℕ → Type 0
+IsTextOf db text = (text ≡ text_of db) ⊎ ((db.windows ≡ []) × (text ≡ text_in One db))
 
 -- what is between the line feeds of a text: its lines, and at last what is after the last line feed
 abbrev pub lines_of : List ℕ → List (List ℕ)

@@ -14,7 +14,7 @@ pub(crate) fn bare_line(alloc: Global, db: &Db, place: usize) -> Result<Name, No
 {
     let mut text = Text::new(alloc);
     match place {
-        0 => text.extend_from_slice(b"covered-db 1")?,
+        0 => text.extend_from_slice(b"covered-db 2")?,
         1 => {
             text.extend_from_slice(b"top ")?;
             text.extend_from_slice(db.top.as_slice())?;

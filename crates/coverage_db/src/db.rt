@@ -1,7 +1,7 @@
-use crate::{Address, DbVerdict};
+use crate::{Address, DbVerdict, Window};
 use cov_host::{Name, Sequence};
 
-/// A database: the points of a design, and how each came out.
+/// A database: the points of a design, how each came out, and in which windows of dumps.
 #[derive(Drop)]
 pub struct Db {
     /// The top module.
@@ -12,6 +12,8 @@ pub struct Db {
     pub instances: Sequence<DbInstance>,
     /// The points, in their order (`Address::compare`).
     pub points: Sequence<DbPoint>,
+    /// What was scored of each dump, each window once, in rising order (`Window::compare`).
+    pub windows: Sequence<Window>,
 }
 
 /// An instance of a module.

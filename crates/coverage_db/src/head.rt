@@ -1,14 +1,29 @@
 ghost use Rattle.std.specs.Prelude.{◌≡◌, nat_le, option_map};
 ghost use Rattle.std.specs.List.{list_all};
-ghost use Rattle.coverage_db.specs.Drafting.{is_version, top_of, source_of, instance_at, count_of};
+ghost use Rattle.coverage_db.specs.Drafting.{is_version, version_of, top_of, source_of, instance_at, count_of};
 ghost use Rattle.coverage_db.specs.Text.{begins_point};
 ghost use Rattle.coverage_db.specs.Table.{is_path, is_file_name};
 ghost use Rattle.coverage_db.specs.Views.{instance_of_parts};
 
+use crate::Version;
 use crate::number::is_plain;
 use crate::split::{behind, split_first};
 use cov_host::is_identifier;
 use itoa::Buffer;
+
+/// The version that the line names, where it is one that is read.
+#[tactic(auto, unfolding(crate::specs::Drafting::version_of))]
+pub(crate) fn version_of(line: &[u8]) -> Option<Version>
+    ensures { result ≡ version_of line.now }
+{
+    if line == b"covered-db 2".as_slice() {
+        Some(Version::Two)
+    } else if line == b"covered-db 1".as_slice() {
+        Some(Version::One)
+    } else {
+        None
+    }
+}
 
 /// Whether the line is that of a version.
 pub(crate) fn is_version(line: &[u8]) -> bool

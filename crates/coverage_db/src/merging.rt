@@ -4,11 +4,12 @@ ghost use Rattle.coverage_db.specs.Table.{IsTable};
 
 use crate::bare_line::bare_line;
 use crate::difference::first_difference;
+use crate::window_join::join_windows;
 use crate::{Db, DbPoint, MergeFault};
 use cov_host::{NoMemory, Sequence};
 use std::alloc::Global;
 
-/// The table of two tables of one design. The left one is consumed also on a refusal.
+/// The table of two tables of one design, with the windows of both. The left one is consumed also on a refusal.
 pub fn merge(alloc: Global, left: Db, right: &Db) -> Result<Db, MergeFault>
     requires left { IsTable left }
     requires right { IsTable right.now }
@@ -29,12 +30,14 @@ pub fn merge(alloc: Global, left: Db, right: &Db) -> Result<Db, MergeFault>
         sources,
         instances,
         points,
+        windows,
     } = left;
     Ok(Db {
         top,
         sources,
         instances,
         points: merge_points(alloc, points, right.points.as_slice())?,
+        windows: join_windows(alloc, windows.as_slice(), right.windows.as_slice())?,
     })
 }
 

@@ -3,7 +3,7 @@ ghost use Rattle.coverage_db.specs.declared.db.Db.{Db as SpecDb};
 ghost use Rattle.coverage_db.specs.Drafting.{Returns, reading};
 ghost use Rattle.coverage_db.specs.Faults.{IsFault, IsTheTable};
 ghost use Rattle.coverage_db.specs.Table.{IsTable};
-ghost use Rattle.coverage_db.specs.Text.{text_of};
+ghost use Rattle.coverage_db.specs.Text.{IsTextOf};
 
 use crate::draft::Draft;
 use crate::split::split_first;
@@ -13,12 +13,12 @@ use std::alloc::Global;
 /// The longest text, in bytes.
 const LONGEST: usize = 2_147_483_648;
 
-/// Reads the text of a table. It accepts exactly the texts of tables up to 2,147,483,648 bytes.
+/// Reads the text of a table. It accepts exactly the texts of tables, those of version 1 too, up to 2,147,483,648 bytes.
 pub fn read_db(alloc: Global, bytes: &[u8]) -> Result<Db, DbFault>
     ensures table { IfOk result (λ db. IsTable db) }
-    ensures spelled { IfOk result (λ db. bytes.now ≡ text_of db) }
+    ensures spelled { IfOk result (λ db. IsTextOf db bytes.now) }
     ensures short { OnOk result (length bytes.now ≤ 2147483648) }
-    ensures only { (db : SpecDb) → IsTable db → bytes.now ≡ text_of db → length bytes.now ≤ 2147483648 → IsTheTable db result }
+    ensures only { (db : SpecDb) → IsTable db → IsTextOf db bytes.now → length bytes.now ≤ 2147483648 → IsTheTable db result }
     ensures fault { IfErr result (λ fault. IsFault bytes.now fault) }
 {
     if bytes.len() > LONGEST {

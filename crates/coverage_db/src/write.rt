@@ -1,8 +1,9 @@
 ghost use Rattle.std.specs.Prelude.{◌≡◌, ℕ, ◌+◌, ◌∷◌, [], ◌++◌, ◌<◌, length, map, decimal, codes, OnOk, IfOk};
 ghost use Rattle.coverage_db.specs.Table.{IsTable};
-ghost use Rattle.coverage_db.specs.Text.{text_of, text_of_lines, head_lines, top_line, source_lines, source_line, instance_line, count_line, point_line, address_text, subject_fields, letter, place_text, index_text, verdict_text, ended, path_at};
+ghost use Rattle.coverage_db.specs.declared.version.Version.TheVariants.{Two};
+ghost use Rattle.coverage_db.specs.Text.{text_of, text_of_lines, head_lines, window_line, window_count_line, top_line, source_lines, source_line, instance_line, count_line, point_line, address_text, subject_fields, letter, place_text, index_text, verdict_text, ended, path_at};
 
-use crate::{Address, Db, DbInstance, DbPoint, DbVerdict, SourceLine, Subject};
+use crate::{Address, Db, DbInstance, DbPoint, DbVerdict, SourceLine, Subject, Window};
 use cov_host::{Name, NoMemory, Sequence, Text};
 use itoa::{Buffer, Integer};
 use std::alloc::Global;
@@ -17,15 +18,17 @@ pub fn write_db(alloc: Global, db: &Db) -> Result<Text, NoMemory>
     push_count(&mut text, db.points.len())?;
     text.push(b'\n')?;
     push_points(&mut text, &db.instances, &db.points)?;
+    push_window_count(&mut text, db.windows.len())?;
+    push_windows(&mut text, &db.windows)?;
     text.extend_from_slice(b"end\n")?;
     Ok(text)
 }
 
 /// Appends the lines before the count of the points.
 fn push_head(text: &mut Text, db: &Db) -> Result<(), NoMemory>
-    ensures { OnOk result (text.new ≡ text.old ++ text_of_lines (head_lines db.now)) }
+    ensures { OnOk result (text.new ≡ text.old ++ text_of_lines (head_lines Two db.now)) }
 {
-    text.extend_from_slice(b"covered-db 1\ntop ")?;
+    text.extend_from_slice(b"covered-db 2\ntop ")?;
     text.extend_from_slice(db.top.as_slice())?;
     text.push(b'\n')?;
     push_sources(text, &db.sources)?;
@@ -92,6 +95,36 @@ fn push_points(
         push_point(text, instances, point)?;
     }
     Ok(())
+}
+
+/// Appends the line of the number of windows.
+fn push_window_count(text: &mut Text, count: usize) -> Result<(), NoMemory>
+    ensures { OnOk result (text.new ≡ text.old ++ ended (window_count_line (decimal count))) }
+{
+    text.extend_from_slice(b"windows ")?;
+    push_number(text, count)?;
+    text.push(b'\n')
+}
+
+/// Appends the lines of the windows.
+fn push_windows(text: &mut Text, windows: &Sequence<Window>) -> Result<(), NoMemory>
+    ensures { OnOk result (text.new ≡ text.old ++ text_of_lines (map window_line windows.now)) }
+{
+    for window in windows.as_slice() {
+        push_window(text, window)?;
+    }
+    Ok(())
+}
+
+/// Appends the line of a window.
+fn push_window(text: &mut Text, window: &Window) -> Result<(), NoMemory>
+    ensures { OnOk result (text.new ≡ text.old ++ ended (window_line window.now)) }
+{
+    text.extend_from_slice(b"window ")?;
+    push_number(text, window.first)?;
+    text.push(b' ')?;
+    push_number(text, window.last)?;
+    text.push(b'\n')
 }
 
 /// Appends the line of a point.

@@ -149,7 +149,7 @@ module _ (score : ScoreValues) (before : Outside) (design : Design) (text : List
       where
         go : (r : DumpRefusal) → IsDumpRefusal refused.design score.instance text r → IsOfBinding r
         go (refusal.At kind byte) (first, inl none) = none b says
-        go (refusal.At kind byte) (first, inr binds) = not_bound refused.sources refused.design binds.0 refused.has_design binds.1 binds.2
+        go (refusal.At kind byte) (first, inr (binds, none)) = not_bound refused.sources refused.design binds.0 refused.has_design binds.1 binds.2
         go (refusal.NoInstance path) is = tt
         go (refusal.InputNotDumped path) is = tt
         go (refusal.NoBaseline path) is = let some = is.2 in not_bound refused.sources refused.design some.0 refused.has_design some.1 some.2.bindable

@@ -2,7 +2,7 @@
 use Rattle.std.proofs.Common.{◌≡◌, ℕ, List, Option, None, Some, sym, subst, ◌∙◌, inl, inr}
 use Rattle.command_line.specs.Command.{IsCommand, command_values}
 use Rattle.command_line.specs.declared.command.Command.{Command}
-use Rattle.cov_host.specs.Outside.{AppendsPrefix, Files, HasFile, KeepsFiles, Outside, SameFiles, Told}
+use Rattle.cov_host.specs.Outside.{AppendsPrefix, Files, KeepsFiles, Outside, SameFiles, Told}
 use Rattle.database_commands.specs.Reporting.{GivesFront, LeavesAll, LeavesFront}
 use Rattle.whole_files.specs.Effects.{HoldsFront}
 use Rattle.whole_files.proofs.EffectLemmas.{KeepsFiles-trans, Told-trans}

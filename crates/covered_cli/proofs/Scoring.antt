@@ -1,10 +1,10 @@
 -- From what was read to what a score says.
-use Rattle.std.proofs.Common.{◌≡◌, ◌⊎◌, ℕ, ◌≤◌, List, Option, None, Some, Ok, Err, sym, subst, ◌∙◌, inl, inr}
-use Rattle.std.specs.Prelude.{IfErr, IfSome, MatchOption, Result, OnOk}
+use Rattle.std.proofs.Common.{◌≡◌, ℕ, List, Option, None, Some, Ok, Err, sym, subst, ◌∙◌}
+use Rattle.std.specs.Prelude.{IfErr, IfSome, Result, OnOk}
 use Rattle.command_line.specs.Command.{IsCommand, command_values}
 use Rattle.command_line.specs.CommandWords.{ScoreValues}
 use Rattle.command_line.specs.declared.command.Command.{Command}
-use Rattle.cov_host.specs.Outside.{Outside, Files, IsCounted, KeepsFiles, SameFiles, Told, HasFile}
+use Rattle.cov_host.specs.Outside.{Outside, Files, KeepsFiles, SameFiles, Told, HasFile}
 use Rattle.covered_cli.specs.Covered.{KeepsOthers}
 use Rattle.covered_cli.specs.Fault.{IsDesignFault, IsDrawingFault, IsEarly, IsPointsFault, IsReadingFault, IsScoringFault, IsWritingFault, StandsIn}
 use Rattle.covered_cli.specs.Scoring.{HasDesign, HasDump, HasSomeDesign, HasSomeScore, IsContradictedText, IsDone, IsDoneIn, IsDoneWork, IsDumpRefusal, IsScoredText, names_of}
@@ -143,6 +143,7 @@ text_is_scored score sources names text design db before middle has are_names ke
       listed = scored.score.table.listed;
       sound = scored.score.table.sound;
       reasoned = scored.score.table.reasoned;
+      windows = scored.score.table.windows;
     };
     is_text = is_text;
   };

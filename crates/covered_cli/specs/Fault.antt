@@ -181,11 +181,12 @@ IsScoringFault score design before after (fault.Dump refusal) = (text : List ℕ
 IsScoringFault score design before after (fault.Contradiction x) = (text : List ℕ) × IsFile before score.dump text × IsContradictedText (habit_in score) design score.instance text x
 IsScoringFault score design before after other = IsReadingFault score.dump before after other
 
--- the fault is none of sources or points, none of a dump or its contradiction, and none of a command over databases
+-- the fault is none of sources or points, none of a dump or its contradiction, none of a file, and none of a command over databases
 abbrev pub IsPlain : Fault → Type 0
 IsPlain (fault.Source f) = ⊥
 IsPlain (fault.Points f) = ⊥
 IsPlain (fault.Dump refusal) = ⊥
 IsPlain (fault.Contradiction x) = ⊥
+IsPlain (fault.Files call file) = ⊥
 IsPlain (fault.Databases f) = ⊥
 IsPlain other = Unit {0}

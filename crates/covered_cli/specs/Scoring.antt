@@ -23,6 +23,7 @@ use Rattle.dump_score.specs.Reading.{IsFile}
 use Rattle.dump_score.specs.Scoring.{AreForced}
 use Rattle.event_machine.specs.Habit.{Habit}
 use Rattle.dump_score.specs.score_tables.Head.{HasHead}
+use Rattle.dump_score.specs.score_tables.Windows.{windows_of}
 use Rattle.shown_dumps.specs.Bound.{HasNoBaseline, IsBound}
 use Rattle.shown_dumps.specs.Shown.{bound_dump}
 use Rattle.signal_binding.specs.Binding.{IsNotDumped}
@@ -30,7 +31,7 @@ use Rattle.signal_binding.specs.Names.{stands_in}
 use Rattle.source_design.specs.Accepted.{StandFor}
 use Rattle.source_design.specs.Reading.{HasSources}
 use Rattle.written_designs.specs.table_laws.Rows.{ListsPoints}
-use Rattle.vcd_reader.specs.Dump.{Dump, IsDump}
+use Rattle.vcd_reader.specs.Dump.{Dump, IsDump, times_of}
 use Rattle.vcd_reader.specs.declared.fault.DumpFault.TheVariants.{At}
 use Rattle.dump_score.specs.verdict_laws.Reasoned.{IsReasoned}
 use Rattle.dump_score.specs.verdict_laws.Sound.{IsSound}
@@ -95,6 +96,7 @@ pub record IsScoreOf (habit : Habit) (design : Design) (machines : StateMachines
   pub listed : ListsPoints (design_view design) machines db
   pub sound : IsSound (design_view design) habit (bound_dump design dump instance) machines db
   pub reasoned : IsReasoned (design_view design) habit (bound_dump design dump instance) machines db
+  pub windows : db.windows ≡ windows_of (times_of dump.steps)
 
 -- the text is that of a table of the design under the dump of this text
 pub record IsScoreText (habit : Habit) (design : Design) (machines : StateMachines) (names : List (List ℕ)) (dump_text instance text : List ℕ) : Type 0 where

@@ -5,6 +5,7 @@ ghost use Rattle.covered_cli.specs.Databases.{database_line, database_status, ki
 ghost use Rattle.covered_cli.specs.Effects.{WarnsLine};
 
 use crate::Status;
+use crate::files_message::warn_file;
 use crate::pieces::warn_pieces;
 use cov_host::Host;
 use coverage_db::DbKind;
@@ -32,7 +33,7 @@ pub(crate) fn warn_database<H: Host>(host: &mut H, fault: &CommandFault<'_>)
     ensures counts { CountsUp (H.outside host.old) (H.outside host.new) }
 {
     match fault {
-        CommandFault::Files { call, file } => warn_file(host, call.name(), file),
+        CommandFault::Files { call, file } => warn_file(host, call.name(), file.as_bytes()),
         CommandFault::Print => warn_pieces(host, &["covered: files: print -\n".as_bytes()]),
         CommandFault::Memory => warn_pieces(host, &["covered: memory\n".as_bytes()]),
         CommandFault::NoDatabase { file, kind, line } => warn_kind(host, file, *kind, *line),
@@ -43,27 +44,6 @@ pub(crate) fn warn_database<H: Host>(host: &mut H, fault: &CommandFault<'_>)
             other,
         } => warn_difference(host, file, *line, first.as_slice(), other.as_slice()),
     }
-}
-
-/// Warns of a call on a file.
-fn warn_file<'a, H: Host>(host: &mut H, call: &'a str, file: &'a str)
-    ensures line { WarnsLine (codes "covered: files: " ++ call.now ++ codes " " ++ file.now ++ codes "\n") (H.outside host.old) (H.outside host.new) }
-    ensures printed { (H.outside host.new).printed ≡ (H.outside host.old).printed }
-    ensures files { KeepsFiles (H.outside host.old) (H.outside host.new) }
-    ensures input { KeepsInput (H.outside host.old) (H.outside host.new) }
-    ensures output { KeepsOutput (H.outside host.old) (H.outside host.new) }
-    ensures counts { CountsUp (H.outside host.old) (H.outside host.new) }
-{
-    warn_pieces(
-        host,
-        &[
-            "covered: files: ".as_bytes(),
-            call.as_bytes(),
-            " ".as_bytes(),
-            file.as_bytes(),
-            "\n".as_bytes(),
-        ],
-    );
 }
 
 /// Warns of a file that is no database.

@@ -19,6 +19,7 @@ mod database_message;
 mod drawings;
 mod dump_refusal;
 mod fault;
+mod files_message;
 mod message;
 mod pieces;
 mod points_message;

@@ -2,7 +2,6 @@ ghost use Rattle.std.specs.Prelude.{◌≡◌, ◌++◌, codes};
 ghost use Rattle.std.specs.List.{flat_map};
 ghost use Rattle.command_line.specs.UsageFault.{usage_text};
 ghost use Rattle.cov_host.specs.Outside.{KeepsFiles, KeepsInput, KeepsOutput};
-ghost use Rattle.whole_files.specs.Call.{call_name};
 ghost use Rattle.whole_files.specs.Effects.{CountsUp};
 ghost use Rattle.covered_cli.specs.Effects.{WarnsLine};
 ghost use Rattle.covered_cli.specs.Fault.{IsPlain, line_of};
@@ -12,12 +11,12 @@ use crate::contradiction::warn_contradiction;
 use crate::database_message::warn_database;
 use crate::dump_refusal::warn_refusal;
 use crate::fault::Fault;
+use crate::files_message::warn_file;
 use crate::pieces::warn_texts;
 use crate::points_message::warn_points;
 use crate::source_message::warn_source;
 use command_line::UsageFault;
 use cov_host::Host;
-use whole_files::Call;
 
 /// Warns of a fault by its line, piece by piece and without memory. Where the host refuses a piece, the pieces
 /// after it are left out.
@@ -35,13 +34,14 @@ pub(crate) fn warn_of<H: Host>(host: &mut H, fault: &Fault<'_>)
         Fault::Contradiction(found) => warn_contradiction(host, found),
         Fault::Databases(fault) => warn_database(host, fault),
         Fault::Points(fault) => warn_points(host, fault),
-        Fault::Usage(_) | Fault::NoMachine { .. } | Fault::Files { .. } | Fault::Memory => {
+        Fault::Files { call, file } => warn_file(host, call.name(), file.as_bytes()),
+        Fault::Usage(_) | Fault::NoMachine { .. } | Fault::Memory => {
             warn_texts(host, &pieces_of(fault))
         }
     }
 }
 
-/// The pieces of a fault's line in order, except one of sources, of points, of a dump or its contradiction, or of a command over databases.
+/// The pieces of a fault's line in order, except one of sources, of points, of a dump or its contradiction, of a file, or of a command over databases.
 fn pieces_of<'a>(fault: &Fault<'a>) -> [&'a str; 5]
     ensures { IsPlain fault.now → flat_map (λ piece. piece.now) result ≡ line_of fault.now }
 {
@@ -51,9 +51,9 @@ fn pieces_of<'a>(fault: &Fault<'a>) -> [&'a str; 5]
         | Fault::Points(_)
         | Fault::Dump(_)
         | Fault::Contradiction(_)
+        | Fault::Files { .. }
         | Fault::Databases(_) => ["", "", "", "", ""],
         Fault::NoMachine { name } => machine_pieces(name),
-        Fault::Files { call, file } => file_pieces(*call, file),
         Fault::Memory => ["covered: memory\n", "", "", "", ""],
     }
 }
@@ -71,12 +71,4 @@ fn machine_pieces<'a>(name: &'a str) -> [&'a str; 5]
     ensures { flat_map (λ piece. piece.now) result ≡ machine_line name.now }
 {
     ["covered: source: points 5 NoMachine ", name, "\n", "", ""]
-}
-
-/// The pieces of the line of a call on a file in order.
-fn file_pieces<'a>(call: Call, file: &'a str) -> [&'a str; 5]
-    ensures { flat_map (λ piece. piece.now) result ≡ codes "covered: files: " ++ call_name call ++ codes " " ++ file.now ++ codes "\n" }
-{
-    let name: &'a str = call.name();
-    ["covered: files: ", name, " ", file, "\n"]
 }

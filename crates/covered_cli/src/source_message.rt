@@ -5,6 +5,7 @@ ghost use Rattle.covered_cli.specs.Effects.{WarnsLine};
 ghost use Rattle.covered_cli.specs.SourceMessage.{const_text, elab_text, kind_text, lex_text, parse_text, refusal_line, source_line, source_status, spot_text};
 
 use crate::Status;
+use crate::files_message::warn_file;
 use crate::pieces::warn_pieces;
 use cov_host::Host;
 use elab_const::ConstKind;
@@ -40,27 +41,6 @@ pub(crate) fn warn_source<H: Host>(host: &mut H, fault: &SourceFault<'_>)
         SourceFault::Included { call, path } => warn_file(host, call.name(), path.as_slice()),
         SourceFault::Refused(refusal) => warn_refused(host, refusal),
     }
-}
-
-/// Warns of a call on a file.
-fn warn_file<'a, H: Host>(host: &mut H, call: &'a str, file: &'a [u8])
-    ensures line { WarnsLine (codes "covered: files: " ++ call.now ++ codes " " ++ file.now ++ codes "\n") (H.outside host.old) (H.outside host.new) }
-    ensures printed { (H.outside host.new).printed ≡ (H.outside host.old).printed }
-    ensures files { KeepsFiles (H.outside host.old) (H.outside host.new) }
-    ensures input { KeepsInput (H.outside host.old) (H.outside host.new) }
-    ensures output { KeepsOutput (H.outside host.old) (H.outside host.new) }
-    ensures counts { CountsUp (H.outside host.old) (H.outside host.new) }
-{
-    warn_pieces(
-        host,
-        &[
-            "covered: files: ".as_bytes(),
-            call.as_bytes(),
-            " ".as_bytes(),
-            file,
-            "\n".as_bytes(),
-        ],
-    );
 }
 
 /// Warns of refused sources.

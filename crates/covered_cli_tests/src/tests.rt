@@ -23,7 +23,7 @@ const DUMP: &str =
     "$scope module tb $end\n$scope module dut $end\n$var wire 1 ! clk $end\n$var wire 2 \" a $end\n$upscope $end\n$upscope $end\n$enddefinitions $end\n#0\n0!\nb00 \"\n#5\n1!\nb01 \"\n#10\n0!\nb1x \"\n#15\n1!\n";
 
 const DATABASE: &str =
-    "covered-db 1\ntop pads\nsource 1 pads.v\ninstance pads pads\npoints 6\nt pads a 0 01 = hit\nt pads a 0 10 = missed\nt pads a 1 01 = hit\nt pads a 1 10 = missed\nt pads clk - 01 = hit\nt pads clk - 10 = hit\nend\n";
+    "covered-db 2\ntop pads\nsource 1 pads.v\ninstance pads pads\npoints 6\nt pads a 0 01 = hit\nt pads a 0 10 = missed\nt pads a 1 01 = hit\nt pads a 1 10 = missed\nt pads clk - 01 = hit\nt pads clk - 10 = hit\nwindows 1\nwindow 0 15\nend\n";
 
 /// A dump as a simulator writes it, with a real variable, a parameter, groups and a comment in the body.
 const REALISTIC: &str =
@@ -39,11 +39,11 @@ const TIME_BACK: &str =
 
 /// The database of the same module, from files that one of them includes.
 const INCLUDED: &str =
-    "covered-db 1\ntop pads\nsource 1 a.v\nsource 2 pads.v\nsource 3 ports.vh\ninstance pads pads\npoints 6\nt pads a 0 01 = hit\nt pads a 0 10 = missed\nt pads a 1 01 = hit\nt pads a 1 10 = missed\nt pads clk - 01 = hit\nt pads clk - 10 = hit\nend\n";
+    "covered-db 2\ntop pads\nsource 1 a.v\nsource 2 pads.v\nsource 3 ports.vh\ninstance pads pads\npoints 6\nt pads a 0 01 = hit\nt pads a 0 10 = missed\nt pads a 1 01 = hit\nt pads a 1 10 = missed\nt pads clk - 01 = hit\nt pads clk - 10 = hit\nwindows 1\nwindow 0 15\nend\n";
 
 /// The table of a register.
 const FIRST: &str =
-    "covered-db 1\ntop ff\nsource 1 ff.v\ninstance ff ff\npoints 11\nl ff 1 1:3 if = hit\nl ff 2 1:3 assign = hit\nl ff 3 1:3 assign = missed\nc ff 1 1:3 value 0 = missed\nc ff 1 1:3 value 1 = hit\nt ff a - 01 = missed\nt ff a - 10 = missed\nt ff clk - 01 = hit\nt ff clk - 10 = missed\nt ff q - 01 = missed\nt ff q - 10 = missed\nend\n";
+    "covered-db 2\ntop ff\nsource 1 ff.v\ninstance ff ff\npoints 11\nl ff 1 1:3 if = hit\nl ff 2 1:3 assign = hit\nl ff 3 1:3 assign = missed\nc ff 1 1:3 value 0 = missed\nc ff 1 1:3 value 1 = hit\nt ff a - 01 = missed\nt ff a - 10 = missed\nt ff clk - 01 = hit\nt ff clk - 10 = missed\nt ff q - 01 = missed\nt ff q - 10 = missed\nwindows 1\nwindow 0 10\nend\n";
 
 /// The same of another run.
 const SECOND: &str =
@@ -51,7 +51,7 @@ const SECOND: &str =
 
 /// Their merge.
 const MERGED: &str =
-    "covered-db 1\ntop ff\nsource 1 ff.v\ninstance ff ff\npoints 11\nl ff 1 1:3 if = hit\nl ff 2 1:3 assign = hit\nl ff 3 1:3 assign = ? 5 ff.a\nc ff 1 1:3 value 0 = ? 5 ff.a\nc ff 1 1:3 value 1 = hit\nt ff a - 01 = missed\nt ff a - 10 = hit\nt ff clk - 01 = hit\nt ff clk - 10 = missed\nt ff q - 01 = missed\nt ff q - 10 = missed\nend\n";
+    "covered-db 2\ntop ff\nsource 1 ff.v\ninstance ff ff\npoints 11\nl ff 1 1:3 if = hit\nl ff 2 1:3 assign = hit\nl ff 3 1:3 assign = ? 5 ff.a\nc ff 1 1:3 value 0 = ? 5 ff.a\nc ff 1 1:3 value 1 = hit\nt ff a - 01 = missed\nt ff a - 10 = hit\nt ff clk - 01 = hit\nt ff clk - 10 = missed\nt ff q - 01 = missed\nt ff q - 10 = missed\nwindows 1\nwindow 0 10\nend\n";
 
 /// A table of another design.
 const OTHER: &str = "covered-db 1\ntop ffr\nsource 1 ffr.v\ninstance ffr ffr\npoints 0\nend\n";
@@ -124,7 +124,7 @@ const INV_LACKING: &str =
     "$scope module tb $end\n$scope module dut $end\n$var wire 1 ! a $end\n$var wire 1 \" b $end\n$var wire 1 # y $end\n$upscope $end\n$upscope $end\n$enddefinitions $end\n#0\n0!\n1\"\n#5\n1!\n1#\n#10\n0!\n0#\n";
 
 const INV_DATABASE: &str =
-    "covered-db 1\ntop inv\nsource 1 inv.v\ninstance inv inv\npoints 9\nc inv 1 1:1 & 0- = missed\nc inv 1 1:1 & -0 = missed\nc inv 1 1:1 & 11 = hit\nt inv a - 01 = hit\nt inv a - 10 = missed\nt inv b - 01 = missed\nt inv b - 10 = missed\nt inv y - 01 = hit\nt inv y - 10 = missed\nend\n";
+    "covered-db 2\ntop inv\nsource 1 inv.v\ninstance inv inv\npoints 9\nc inv 1 1:1 & 0- = missed\nc inv 1 1:1 & -0 = missed\nc inv 1 1:1 & 11 = hit\nt inv a - 01 = hit\nt inv a - 10 = missed\nt inv b - 01 = missed\nt inv b - 10 = missed\nt inv y - 01 = hit\nt inv y - 10 = missed\nwindows 1\nwindow 0 10\nend\n";
 
 /// The tables.
 const TABLES: &[File] = &[("t1.db", FIRST), ("t2.db", SECOND), ("t5.db", OTHER)];
@@ -261,4 +261,73 @@ fn scores_and_refuses_an_assignment(rt: HostRuntime) {
 #[test]
 fn joins_and_reports_databases(rt: HostRuntime) {
     assert!(rt; all_end(rt.alloc(), DATABASES));
+}
+
+/// A command of which one call of the host fails, by its number: the status that it ends with, and what it warns.
+struct Failing {
+    words: &'static [&'static str],
+    files: &'static [File],
+    call: u64,
+    status: Status,
+    warned: &'static str,
+}
+
+/// Each call of a score, a merge and a report in turn. A warning that is refused leaves the status.
+#[rattlefmt::skip]
+const FAILING: &[Failing] = &[
+    Failing { words: SCORE, files: &[("pads.v", SOURCE), ("D", DUMP)], call: 1, status: Status::Files, warned: "covered: files: open_read pads.v\n" },
+    Failing { words: SCORE, files: &[("pads.v", SOURCE), ("D", DUMP)], call: 2, status: Status::Files, warned: "covered: files: read pads.v\n" },
+    Failing { words: SCORE, files: &[("pads.v", SOURCE), ("D", DUMP)], call: 3, status: Status::Files, warned: "covered: files: read pads.v\n" },
+    Failing { words: SCORE, files: &[("pads.v", SOURCE), ("D", DUMP)], call: 4, status: Status::Files, warned: "covered: files: open_read D\n" },
+    Failing { words: SCORE, files: &[("pads.v", SOURCE), ("D", DUMP)], call: 5, status: Status::Files, warned: "covered: files: read D\n" },
+    Failing { words: SCORE, files: &[("pads.v", SOURCE), ("D", DUMP)], call: 6, status: Status::Files, warned: "covered: files: read D\n" },
+    Failing { words: SCORE, files: &[("pads.v", SOURCE), ("D", DUMP)], call: 7, status: Status::Files, warned: "covered: files: open_write B\n" },
+    Failing { words: SCORE, files: &[("pads.v", SOURCE), ("D", DUMP)], call: 8, status: Status::Files, warned: "covered: files: write B\n" },
+    Failing { words: SCORE, files: &[("pads.v", SOURCE), ("D", DUMP)], call: 9, status: Status::Files, warned: "covered: files: close_write B\n" },
+    Failing { words: SCORE, files: &[("pads.v", SOURCE), ("D", DUMP)], call: 10, status: Status::Done, warned: "" },
+    Failing { words: INCLUDING, files: &[A, PADS, ("D", DUMP), PORTS], call: 7, status: Status::Files, warned: "covered: files: open_read inc/ports.vh\n" },
+    Failing { words: INCLUDING, files: &[A, PADS, ("D", DUMP), PORTS], call: 8, status: Status::Files, warned: "covered: files: read inc/ports.vh\n" },
+    Failing { words: &["merge", "-o", "m.db", "t2.db", "t1.db"], files: TABLES, call: 1, status: Status::Files, warned: "covered: files: open_read t2.db\n" },
+    Failing { words: &["merge", "-o", "m.db", "t2.db", "t1.db"], files: TABLES, call: 4, status: Status::Files, warned: "covered: files: open_read t1.db\n" },
+    Failing { words: &["merge", "-o", "m.db", "t2.db", "t1.db"], files: TABLES, call: 5, status: Status::Files, warned: "covered: files: read t1.db\n" },
+    Failing { words: &["merge", "-o", "m.db", "t2.db", "t1.db"], files: TABLES, call: 7, status: Status::Files, warned: "covered: files: open_write m.db\n" },
+    Failing { words: &["report", "t1.db"], files: TABLES, call: 4, status: Status::Files, warned: "covered: files: print -\n" },
+    Failing { words: &["score", "-t"], files: &[], call: 1, status: Status::Usage, warned: "" },
+    Failing { words: &["report", "t9.db"], files: TABLES, call: 2, status: Status::Files, warned: "" },
+    Failing { words: SCORE_M, files: &[("m.v", "module m(input a);\n")], call: 4, status: Status::Source, warned: "" },
+];
+
+/// A host with the files of the case, of which one call fails.
+fn failing_host(alloc: Global, case: &Failing) -> Result<MemoryHost, NoMemory> {
+    let mut failing = Calls::new(alloc);
+    failing.push(case.call)?;
+    let mut host = MemoryHost::new(alloc, failing)?;
+    for (name, text) in case.files {
+        host.put(name, text.as_bytes())?;
+    }
+    Ok(host)
+}
+
+/// The words of a case of which a call fails.
+fn failing_words(alloc: Global, case: &Failing) -> Result<Words, NoMemory> {
+    let mut words = Words::new(alloc);
+    for word in case.words {
+        words.push(word)?;
+    }
+    Ok(words)
+}
+
+/// Whether the command ends as the case says.
+fn fails(alloc: Global, case: &Failing) -> bool {
+    let (Ok(words), Ok(mut host)) = (failing_words(alloc, case), failing_host(alloc, case)) else {
+        return false;
+    };
+    covered(alloc, &words, &mut host) == case.status && host.warned() == case.warned.as_bytes()
+}
+
+#[test]
+fn each_failing_call_tells_its_own_name(rt: HostRuntime) {
+    for case in FAILING {
+        assert!(rt; fails(rt.alloc(), case));
+    }
 }

@@ -6,7 +6,7 @@ use Rattle.command_line.specs.DatabaseWords.{MergeValues, ReportValues}
 use Rattle.cov_host.specs.Outside.{Files as HostFiles, IsCounted, Outside}
 use Rattle.coverage_db.proofs.ReadingLaws.{one_table}
 use Rattle.coverage_db.specs.Merge.{SameDesign, bare_lines}
-use Rattle.coverage_db.specs.Text.{text_of}
+use Rattle.coverage_db.specs.Text.{IsTextOf}
 use Rattle.coverage_db.specs.declared.db.Db.{Db}
 use Rattle.coverage_db.specs.declared.fault.DbKind.{DbKind}
 use Rattle.whole_files.specs.Refusals.{IsRefused}
@@ -31,7 +31,7 @@ there_at (Some files) name text P told missing = let e : Some text ≡ None = sy
 
 -- a call on a file that is there was counted as a fault
 pub refused_there : (before after : Outside) (call : Call) (name : List ℕ) (db : Db) → HasTable before name db → IsRefused call name before after → IsCounted before.faults after.faults
-refused_there before after OpenRead name db has refused = elim refused.cause [ inl counted ↦ counted | inr missing ↦ absurd (there_at before.files name (text_of db) (IsCounted before.absences after.absences) has.is missing) ]
+refused_there before after OpenRead name db has refused = elim refused.cause [ inl counted ↦ counted | inr missing ↦ absurd (there_at before.files name has.text (IsCounted before.absences after.absences) has.is missing) ]
 refused_there before after Read name db has refused = refused.cause
 refused_there before after OpenWrite name db has refused = refused.cause
 refused_there before after Write name db has refused = refused.cause
@@ -47,13 +47,14 @@ refused_write before after CloseWrite name writing refused = refused.cause
 -- what has a table is no other text
 pub table_there : (before : Outside) (name : List ℕ) (db : Db) (kind : DbKind) (line : Option ℕ) → HasTable before name db → IsNoTable name before kind line → ⊥
 table_there before name db kind line has no_table =
-    let same = one_text_at before.files name (text_of db) no_table.text has.is no_table.is in
-    no_table.none db has.table (sym same) (subst (λ text. length text ≤ 2147483648) same has.short)
+    let same = one_text_at before.files name has.text no_table.text has.is no_table.is in
+    no_table.none db has.table (subst (IsTextOf db) same has.is_text) (subst (λ text. length text ≤ 2147483648) same has.short)
 
 -- what a file holds is the table that it has
 same_table : (alloc : Global) (before : Outside) (name : List ℕ) (db other : Db) → HasTable before name db → HoldsTable before name other → db ≡ other
 same_table alloc before name db other has holds =
-    one_table alloc db other has.table holds.table (one_text_at before.files name (text_of db) (text_of other) has.is holds.is)
+    let same = one_text_at before.files name has.text holds.text has.is holds.is in
+    one_table alloc db other holds.text has.table holds.table (subst (IsTextOf db) same has.is_text) holds.is_text
 
 same_behind : (front xs ys : List (List ℕ)) → front ++ xs ≡ front ++ ys → xs ≡ ys
 same_behind [] xs ys same = same

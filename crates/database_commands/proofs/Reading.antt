@@ -1,8 +1,7 @@
 -- What was read of files that have not changed since.
-use Rattle.std.proofs.Common.{◌≡◌, ℕ, List, [], ◌∷◌, ◌++◌, Option, None, Some, sym, ◌∙◌}
-use Rattle.std.specs.Prelude.{IfSome}
-use Rattle.cov_host.specs.Outside.{Files, KeepsFiles, Outside, SameFiles, Told}
-use Rattle.coverage_db.specs.Text.{text_of}
+use Rattle.std.proofs.Common.{◌≡◌, ℕ, ◌≤◌, List, [], ◌∷◌, ◌++◌, Option, None, Some, sym, ◌∙◌, inl, inr}
+use Rattle.std.specs.Prelude.{IfSome, MatchOption}
+use Rattle.cov_host.specs.Outside.{Files, IsCounted, KeepsFiles, Outside, SameFiles, Told}
 use Rattle.coverage_db.specs.declared.db.Db.{Db}
 use Rattle.coverage_db.specs.declared.fault.DbKind.{DbKind}
 use Rattle.whole_files.specs.Effects.{CountsUp, OnlyReads}
@@ -20,7 +19,7 @@ file_as_before name text (Some before) (Some after) same is = sym (same name) �
 
 -- a file holds the table that it held before
 pub holds_before : (before after : Outside) (name : List ℕ) (db : Db) → KeepsFiles before after → HoldsTable after name db → HoldsTable before name db
-holds_before before after name db kept holds = record { table = holds.table; is = file_as_before name (text_of db) before.files after.files kept holds.is; short = holds.short }
+holds_before before after name db kept holds = record { table = holds.table; text = holds.text; is_text = holds.is_text; is = file_as_before name holds.text before.files after.files kept holds.is; short = holds.short }
 
 -- and what is no table's was none before
 pub no_table_before : (before after : Outside) (name : List ℕ) (kind : DbKind) (line : Option ℕ) → KeepsFiles before after → IsNoTable name after kind line → IsNoTable name before kind line

@@ -4,14 +4,16 @@ use Rattle.command_line.specs.DatabaseWords.{MergeValues, ReportValues}
 use Rattle.cov_host.specs.Outside.{IsCounted, Outside}
 use Rattle.coverage_db.specs.Merge.{SameDesign}
 use Rattle.coverage_db.specs.Table.{IsTable}
-use Rattle.coverage_db.specs.Text.{text_of}
+use Rattle.coverage_db.specs.Text.{IsTextOf}
 use Rattle.coverage_db.specs.declared.db.Db.{Db}
 
--- the files of the host are known, and this one has the text of this table, which is no longer than 2,147,483,648 bytes
+-- the files of the host are known, and this one has a text of this table, which is no longer than 2,147,483,648 bytes
 pub record HasTable (before : Outside) (name : List ℕ) (db : Db) : Type 0 where
   pub table : IsTable db
-  pub is : IsSomeAnd before.files (λ files. files name ≡ Some (text_of db))
-  pub short : length (text_of db) ≤ 2147483648
+  pub text : List ℕ
+  pub is_text : IsTextOf db text
+  pub is : IsSomeAnd before.files (λ files. files name ≡ Some text)
+  pub short : length text ≤ 2147483648
 
 -- each file has a table of this design
 abbrev pub HaveTablesOf : Outside → Db → List (List ℕ) → Type 0

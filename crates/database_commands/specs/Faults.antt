@@ -4,7 +4,7 @@ use Rattle.cov_host.specs.Outside.{Outside, IsCounted}
 use Rattle.coverage_db.specs.Faults.{IsFault}
 use Rattle.coverage_db.specs.Merge.{DiffersAt}
 use Rattle.coverage_db.specs.Table.{IsTable}
-use Rattle.coverage_db.specs.Text.{text_of}
+use Rattle.coverage_db.specs.Text.{IsTextOf}
 use Rattle.coverage_db.specs.declared.db.Db.{Db}
 use Rattle.coverage_db.specs.declared.fault.DbFault.TheVariants.{At}
 use Rattle.coverage_db.specs.declared.fault.DbKind.{DbKind}
@@ -33,7 +33,7 @@ IsWriting call = Unit {0}
 pub record IsNoTable (name : List ℕ) (before : Outside) (kind : DbKind) (line : Option ℕ) : Type 0 where
   pub text : List ℕ
   pub is : IsFile before name text
-  pub none : (db : Db) → IsTable db → text ≡ text_of db → length text ≤ 2147483648 → ⊥
+  pub none : (db : Db) → IsTable db → IsTextOf db text → length text ≤ 2147483648 → ⊥
   pub fault : IsFault text (At kind line)
 
 -- no table was read of the file

@@ -3,24 +3,26 @@ use Rattle.std.specs.Prelude.{◌≡◌, ◌≢◌, ◌≤◌, ℕ, List, [], �
 use Rattle.cov_host.specs.Outside.{Files, Outside}
 use Rattle.coverage_db.specs.Merge.{SameDesign}
 use Rattle.coverage_db.specs.Table.{IsTable}
-use Rattle.coverage_db.specs.Text.{text_of}
+use Rattle.coverage_db.specs.Text.{IsTextOf}
 use Rattle.coverage_db.specs.declared.db.Db.{Db}
 
 -- the file has this text, where the files of the host are known
 abbrev pub IsFile : Outside → List ℕ → List ℕ → Type 0
 IsFile outside name text = IfSome outside.files (λ files. files name ≡ Some text)
 
--- the file has the text of this table, which is no longer than 2,147,483,648 bytes
+-- the file has a text of this table, which is no longer than 2,147,483,648 bytes
 pub record HoldsTable (before : Outside) (name : List ℕ) (db : Db) : Type 0 where
   pub table : IsTable db
-  pub is : IsFile before name (text_of db)
-  pub short : length (text_of db) ≤ 2147483648
+  pub text : List ℕ
+  pub is_text : IsTextOf db text
+  pub is : IsFile before name text
+  pub short : length text ≤ 2147483648
 
--- the file has the text of some table
+-- the file has a text of some table
 abbrev pub HoldsSome : Outside → List ℕ → Type 0
 HoldsSome before name = (db : Db) × HoldsTable before name db
 
--- each file has the text of its table
+-- each file has a text of its table
 abbrev pub HoldTables : Outside → List (List ℕ) → List Db → Type 0
 HoldTables before [] [] = Unit {0}
 HoldTables before (name ∷ names) (db ∷ tables) = HoldsTable before name db × HoldTables before names tables

@@ -7,15 +7,15 @@ use std::alloc::Global;
 
 /// A table of a register.
 const FIRST: &[u8] =
-    b"covered-db 1\ntop ff\nsource 1 ff.v\ninstance ff ff\npoints 4\nl ff 1 1:3 if = hit\nl ff 2 1:3 assign = hit\nl ff 3 1:3 assign = missed\nt ff a - 10 = missed\nend\n";
+    b"covered-db 2\ntop ff\nsource 1 ff.v\ninstance ff ff\npoints 4\nl ff 1 1:3 if = hit\nl ff 2 1:3 assign = hit\nl ff 3 1:3 assign = missed\nt ff a - 10 = missed\nwindows 1\nwindow 0 10\nend\n";
 
 /// The same of another run.
 const SECOND: &[u8] =
-    b"covered-db 1\ntop ff\nsource 1 ff.v\ninstance ff ff\npoints 4\nl ff 1 1:3 if = hit\nl ff 2 1:3 assign = ? 5 ff.a\nl ff 3 1:3 assign = ? 5 ff.a\nt ff a - 10 = hit\nend\n";
+    b"covered-db 2\ntop ff\nsource 1 ff.v\ninstance ff ff\npoints 4\nl ff 1 1:3 if = hit\nl ff 2 1:3 assign = ? 5 ff.a\nl ff 3 1:3 assign = ? 5 ff.a\nt ff a - 10 = hit\nwindows 1\nwindow 20 30\nend\n";
 
 /// Their merge.
 const MERGED: &[u8] =
-    b"covered-db 1\ntop ff\nsource 1 ff.v\ninstance ff ff\npoints 4\nl ff 1 1:3 if = hit\nl ff 2 1:3 assign = hit\nl ff 3 1:3 assign = ? 5 ff.a\nt ff a - 10 = hit\nend\n";
+    b"covered-db 2\ntop ff\nsource 1 ff.v\ninstance ff ff\npoints 4\nl ff 1 1:3 if = hit\nl ff 2 1:3 assign = hit\nl ff 3 1:3 assign = ? 5 ff.a\nt ff a - 10 = hit\nwindows 2\nwindow 0 10\nwindow 20 30\nend\n";
 
 /// A table of another design.
 const OTHER: &[u8] = b"covered-db 1\ntop ffr\nsource 1 ffr.v\ninstance ffr ffr\npoints 0\nend\n";

@@ -9,15 +9,15 @@ use std::alloc::Global;
 
 /// The table of a register: the simplest text with lines, logic and toggles.
 const TABLE: &[u8] =
-    b"covered-db 1\ntop ff\nsource 1 ff.v\ninstance ff ff\npoints 11\nl ff 1 1:3 if = hit\nl ff 2 1:3 assign = hit\nl ff 3 1:3 assign = missed\nc ff 1 1:3 value 0 = missed\nc ff 1 1:3 value 1 = hit\nt ff a - 01 = missed\nt ff a - 10 = missed\nt ff clk - 01 = hit\nt ff clk - 10 = missed\nt ff q - 01 = missed\nt ff q - 10 = missed\nend\n";
+    b"covered-db 2\ntop ff\nsource 1 ff.v\ninstance ff ff\npoints 11\nl ff 1 1:3 if = hit\nl ff 2 1:3 assign = hit\nl ff 3 1:3 assign = missed\nc ff 1 1:3 value 0 = missed\nc ff 1 1:3 value 1 = hit\nt ff a - 01 = missed\nt ff a - 10 = missed\nt ff clk - 01 = hit\nt ff clk - 10 = missed\nt ff q - 01 = missed\nt ff q - 10 = missed\nwindows 1\nwindow 0 10\nend\n";
 
 /// The same table of another run.
 const OTHER: &[u8] =
-    b"covered-db 1\ntop ff\nsource 1 ff.v\ninstance ff ff\npoints 11\nl ff 1 1:3 if = hit\nl ff 2 1:3 assign = ? 5 ff.a\nl ff 3 1:3 assign = ? 5 ff.a\nc ff 1 1:3 value 0 = ? 5 ff.a\nc ff 1 1:3 value 1 = ? 5 ff.a\nt ff a - 01 = missed\nt ff a - 10 = hit\nt ff clk - 01 = hit\nt ff clk - 10 = missed\nt ff q - 01 = missed\nt ff q - 10 = missed\nend\n";
+    b"covered-db 2\ntop ff\nsource 1 ff.v\ninstance ff ff\npoints 11\nl ff 1 1:3 if = hit\nl ff 2 1:3 assign = ? 5 ff.a\nl ff 3 1:3 assign = ? 5 ff.a\nc ff 1 1:3 value 0 = ? 5 ff.a\nc ff 1 1:3 value 1 = ? 5 ff.a\nt ff a - 01 = missed\nt ff a - 10 = hit\nt ff clk - 01 = hit\nt ff clk - 10 = missed\nt ff q - 01 = missed\nt ff q - 10 = missed\nwindows 2\nwindow 0 10\nwindow 5 8\nend\n";
 
 /// Their merge.
 const MERGED: &[u8] =
-    b"covered-db 1\ntop ff\nsource 1 ff.v\ninstance ff ff\npoints 11\nl ff 1 1:3 if = hit\nl ff 2 1:3 assign = hit\nl ff 3 1:3 assign = ? 5 ff.a\nc ff 1 1:3 value 0 = ? 5 ff.a\nc ff 1 1:3 value 1 = hit\nt ff a - 01 = missed\nt ff a - 10 = hit\nt ff clk - 01 = hit\nt ff clk - 10 = missed\nt ff q - 01 = missed\nt ff q - 10 = missed\nend\n";
+    b"covered-db 2\ntop ff\nsource 1 ff.v\ninstance ff ff\npoints 11\nl ff 1 1:3 if = hit\nl ff 2 1:3 assign = hit\nl ff 3 1:3 assign = ? 5 ff.a\nc ff 1 1:3 value 0 = ? 5 ff.a\nc ff 1 1:3 value 1 = hit\nt ff a - 01 = missed\nt ff a - 10 = hit\nt ff clk - 01 = hit\nt ff clk - 10 = missed\nt ff q - 01 = missed\nt ff q - 10 = missed\nwindows 2\nwindow 0 10\nwindow 5 8\nend\n";
 
 /// Texts that are no table's, each with the line of its fault.
 const BAD_LINES: &[(&[u8], u32)] = &[
@@ -108,6 +108,58 @@ const BAD_LINES: &[(&[u8], u32)] = &[
         b"covered-db 1\ntop m\nsource 1 m.v\ninstance m m\npoints 3\nt m a 10 01 = hit\nt m a 9 01 = hit\nend\n",
         7,
     ),
+    (
+        b"covered-db 2\ntop m\nsource 1 m.v\ninstance m m\npoints 0\nend\n",
+        6,
+    ),
+    (
+        b"covered-db 2\ntop m\nsource 1 m.v\ninstance m m\npoints 0\nwindows\n",
+        6,
+    ),
+    (
+        b"covered-db 2\ntop m\nsource 1 m.v\ninstance m m\npoints 0\nwindows 00\nend\n",
+        6,
+    ),
+    (
+        b"covered-db 2\ntop m\nsource 1 m.v\ninstance m m\npoints 0\nwindows 1\nwindow 5 5\nend\n",
+        7,
+    ),
+    (
+        b"covered-db 2\ntop m\nsource 1 m.v\ninstance m m\npoints 0\nwindows 1\nwindow 05 6\nend\n",
+        7,
+    ),
+    (
+        b"covered-db 2\ntop m\nsource 1 m.v\ninstance m m\npoints 0\nwindows 1\nwindow 5  6\nend\n",
+        7,
+    ),
+    (
+        b"covered-db 2\ntop m\nsource 1 m.v\ninstance m m\npoints 0\nwindows 1\nwindow 5 6 \nend\n",
+        7,
+    ),
+    (
+        b"covered-db 2\ntop m\nsource 1 m.v\ninstance m m\npoints 0\nwindows 1\nwindow 5 9223372036854775808\nend\n",
+        7,
+    ),
+    (
+        b"covered-db 2\ntop m\nsource 1 m.v\ninstance m m\npoints 0\nwindows 2\nwindow 5 6\nwindow 5 6\nend\n",
+        8,
+    ),
+    (
+        b"covered-db 2\ntop m\nsource 1 m.v\ninstance m m\npoints 0\nwindows 2\nwindow 5 7\nwindow 5 6\nend\n",
+        8,
+    ),
+    (
+        b"covered-db 2\ntop m\nsource 1 m.v\ninstance m m\npoints 0\nwindows 2\nwindow 5 6\n",
+        8,
+    ),
+    (
+        b"covered-db 2\ntop m\nsource 1 m.v\ninstance m m\npoints 0\nwindows 0\nends\n",
+        7,
+    ),
+    (
+        b"covered-db 2\ntop m\nsource 1 m.v\ninstance m m\npoints 0\nwindows 0\nend\nend\n",
+        8,
+    ),
 ];
 
 /// Texts with another number of points.
@@ -117,9 +169,16 @@ const WRONG_COUNTS: &[&[u8]] = &[
     b"covered-db 1\ntop m\nsource 1 m.v\ninstance m m\npoints 2\nt m a - 01 = hit\nother\n",
 ];
 
+/// Texts with another number of windows.
+const WRONG_WINDOW_COUNTS: &[&[u8]] = &[
+    b"covered-db 2\ntop m\nsource 1 m.v\ninstance m m\npoints 0\nwindows 0\nwindow 5 6\nend\n",
+    b"covered-db 2\ntop m\nsource 1 m.v\ninstance m m\npoints 0\nwindows 99999999999999999999\nend\n",
+    b"covered-db 2\ntop m\nsource 1 m.v\ninstance m m\npoints 0\nwindows 2\nwindow 5 6\nother\n",
+];
+
 /// A table, and its like with one other line each, with the number and the two lines.
 const DESIGN: &[u8] =
-    b"covered-db 1\ntop m\nsource 1 m.v\ninstance m m\npoints 2\nt m a - 01 = hit\nt m a - 10 = missed\nend\n";
+    b"covered-db 2\ntop m\nsource 1 m.v\ninstance m m\npoints 2\nt m a - 01 = hit\nt m a - 10 = missed\nwindows 0\nend\n";
 
 const OTHER_DESIGNS: &[(&[u8], u32, &[u8], &[u8])] = &[
     (
@@ -256,6 +315,15 @@ fn tables_are_read_and_written(rt: HostRuntime) {
     }
 }
 
+/// A text of version 1, and that of its table.
+const OLDER: &[u8] =
+    b"covered-db 1\ntop m\nsource 1 m.v\ninstance m m\npoints 2\nt m a - 01 = hit\nt m a - 10 = missed\nend\n";
+
+#[test]
+fn a_text_of_version_one_is_read(rt: HostRuntime) {
+    assert!(rt; is_text(written(rt.alloc(), OLDER), DESIGN));
+}
+
 #[test]
 fn faults_have_their_lines(rt: HostRuntime) {
     for (text, line) in BAD_LINES {
@@ -263,6 +331,9 @@ fn faults_have_their_lines(rt: HostRuntime) {
     }
     for text in WRONG_COUNTS {
         assert!(rt; has_fault(rt.alloc(), text, DbKind::WrongCount, 5));
+    }
+    for text in WRONG_WINDOW_COUNTS {
+        assert!(rt; has_fault(rt.alloc(), text, DbKind::WrongCount, 6));
     }
     assert!(rt; has_fault(rt.alloc(), b"covered-db 9\n", DbKind::WrongVersion, 1));
 }
@@ -312,11 +383,11 @@ fn push_bit(text: &mut Text, bit: u32) -> Result<(), NoMemory> {
 /// The table of a signal of many bits.
 fn many_points(alloc: Global) -> Result<Text, NoMemory> {
     let mut text = Text::new(alloc);
-    text.extend_from_slice(b"covered-db 1\ntop m\nsource 1 m.v\ninstance m m\npoints 100000\n")?;
+    text.extend_from_slice(b"covered-db 2\ntop m\nsource 1 m.v\ninstance m m\npoints 100000\n")?;
     for bit in 0..BITS {
         push_bit(&mut text, bit)?;
     }
-    text.extend_from_slice(b"end\n")?;
+    text.extend_from_slice(b"windows 0\nend\n")?;
     Ok(text)
 }
 

@@ -9,7 +9,7 @@ use Rattle.elab_const.specs.Faults.{is_bad_bound}
 use Rattle.elab_const.specs.Meaning.{count_of, number_of}
 use Rattle.elab_const.specs.Scope as const_scope
 use Rattle.elab_const.specs.declared.fault.ConstKind.TheVariants.{BadRange}
-use Rattle.flat_design.specs.Declarations.{Declaration, Override, Sort, a_net, a_variable, words_from, an_integer, a_parameter, some_instance, faulty, all_declarations, bounds_faults, declaration, is_sound_range, is_sound_vector, is_variable, item_declarations, range_names_faulty, range_value, sort_if, vector_faults, words_faults, words_sort}
+use Rattle.flat_design.specs.Declarations.{Declaration, Override, Sort, a_net, a_variable, words_from, an_integer, a_parameter, some_instance, faulty, faulty_memory, all_declarations, bounds_faults, declaration, is_any_memory, is_faulty, is_sound_range, is_sound_vector, is_variable, item_declarations, range_names_faulty, range_value, sort_if, vector_faults, words_faults, words_sort}
 use Rattle.flat_design.specs.Expressions.{bound_faults, faults}
 use Rattle.flat_design.specs.Fault.{none}
 use Rattle.flat_design.specs.Instances.{constant_scope, declared, sort_words}
@@ -84,9 +84,13 @@ words_small g p (Some r) = by_test (none (words_faults g p r)) (is_sound_range g
 
 -- ---- declarations
 
+faulty_small : (b : Bool) → HasSmallWords (if b then faulty_memory else faulty)
+faulty_small true = tt
+faulty_small false = tt
+
 small_if : (b : Bool) (s : Sort) → HasSmallWords s → HasSmallWords (sort_if b s)
 small_if true s h = h
-small_if false s h = tt
+small_if false s h = faulty_small (is_any_memory s)
 
 either_small : (b : Bool) → HasSmallWords (if b then a_variable else a_net)
 either_small true = tt
@@ -112,9 +116,13 @@ all_within g m d h = by_part (in_append d (map (λ p. declaration p.name.place a
     by_part (inl k) = let l = in_map _ d m.params k in subst IsWithin l.2 (record { range = (omega arith, omega arith); words = tt })
     by_part (inr k) = let l = in_flat_map _ d m.items k in item_within g l.0.place l.0.form d l.2
 
+completed_small : (a b : Bool) → HasSmallWords (if a then faulty else (if b then a_variable else a_net))
+completed_small true b = tt
+completed_small false b = either_small b
+
 pub declared_within : (os : List Override) (m : Module) (d : Declaration) → In d (declared os m) → IsWithin d
 declared_within os m d h =
-    from_all IsWithin (λ c e k l. record { range = k.range; words = either_small (is_variable c.sort || is_variable e.sort) }) [] (all_declarations (constant_scope os m) m) (λ x k. absurd k) (all_within (constant_scope os m) m) d h
+    from_all IsWithin (λ c e k o l. record { range = k.range; words = completed_small (is_faulty c.sort || is_faulty e.sort) (is_variable c.sort || is_variable e.sort) }) [] (all_declarations (constant_scope os m) m) (λ x k. absurd k) (all_within (constant_scope os m) m) d h
 
 pub sort_small : (s : Sort) → HasSmallWords s → IsSmall (sort_words s)
 sort_small (words_from r) h = h
@@ -124,3 +132,4 @@ sort_small an_integer h = (omega arith, omega arith)
 sort_small a_parameter h = (omega arith, omega arith)
 sort_small some_instance h = (omega arith, omega arith)
 sort_small faulty h = (omega arith, omega arith)
+sort_small faulty_memory h = (omega arith, omega arith)

@@ -27,12 +27,16 @@ use Rattle.signal_binding.specs.Binding.{codes_of}
 use Rattle.entry_laws.specs.Entries.{AreEntries}
 use Rattle.shown_dumps.specs.Laws.{dump_with}
 use Rattle.shown_dumps.specs.Ongoing.{bits_of}
+use Rattle.shown_dumps.specs.Said.{times_in}
 use Rattle.shown_dumps.specs.Shown.{code_at}
 use Rattle.dump_replay.specs.Followed.{Follows, HasFollowed, IsReplayOf}
 use Rattle.dump_replay.specs.Taken.{HasTaken}
 use Rattle.dump_replay.specs.declared.replay.DumpReplay.{DumpReplay}
 use Rattle.dump_replay.proofs.Facts.{some_values}
 use Rattle.dump_replay.proofs.Taken.{taken_first, taken_time, taken_value}
+use Rattle.dump_replay.proofs.More.{no_times, times_time, times_value}
+use Rattle.dump_replay.proofs.Windows.{first_kept, some_times}
+use Rattle.dump_replay.specs.Windows.{first_of}
 
 apart : (a b : ℕ) → (a == b) ≡ false → b ≡ a → ⊥
 apart a b e f =
@@ -63,6 +67,7 @@ passed_one x habit design points vars instance entries code value unwanted f =
     let none : (s : ℕ) → code_at (codes_of design vars instance) s ≡ Some code → ⊥ = λ s bound. false≢true (sym unwanted ∙ (f.of.wanted code).1 (s, bound)) in
     record {
       of = f.of;
+      first = f.first ∙ ap first_of (sym (times_value entries code value));
       last = f.last ∙ sym (last_value_entry entries code value);
       taken = taken_value (Follows x.replay) (Follows x.replay) (IsNew x.replay) (IsNew x.replay) (codes_of design vars instance) (value_of (given_of x.replay)) (value_of (given_of x.replay)) entries code value
           (λ dump t h. h) (λ h. h) (λ s bound. absurd (none s bound)) (λ other e. refl) f.taken;
@@ -78,13 +83,14 @@ passed_all x habit design points vars instance (Value code value ∷ passed) ent
     (passed_all x habit design points vars instance passed (entries ++ Value code value ∷ []) (All-tail (IsUnwanted x.wanted.items) (Value code value) passed unwanted) next)
 
 -- a change
-pub changed : (x y : DumpReplay) (code : ℕ) (value : Vector) → IsReady y.replay → made_of y.replay ≡ made_of x.replay → (IsNew x.replay → IsNew y.replay) → given_of y.replay ≡ slice_set (given_of x.replay) code (Some (without_sign value)) → y.wanted ≡ x.wanted → y.last ≡ x.last
+pub changed : (x y : DumpReplay) (code : ℕ) (value : Vector) → IsReady y.replay → made_of y.replay ≡ made_of x.replay → (IsNew x.replay → IsNew y.replay) → given_of y.replay ≡ slice_set (given_of x.replay) code (Some (without_sign value)) → y.wanted ≡ x.wanted → y.first ≡ x.first → y.last ≡ x.last
     → ((dump : BoundDump) (t : ℕ) → Follows x.replay dump t → Follows y.replay dump t)
     → (habit : Habit) (design : Design) (points : Points) (vars : List Var) (instance : List ℕ) (entries : List Entry) → HasFollowed x habit design points vars instance entries → HasFollowed y habit design points vars instance (entries ++ Value code value ∷ [])
-changed x y code value ready made stays given wanted last follows habit design points vars instance entries f =
+changed x y code value ready made stays given wanted first last follows habit design points vars instance entries f =
     let long : length (given_of y.replay) ≡ length (given_of x.replay) = ap length given ∙ length-set (given_of x.replay) code (Some (without_sign value)) in
     record {
       of = of_again x y habit design points vars instance ready made long wanted f.of;
+      first = first ∙ f.first ∙ ap first_of (sym (times_value entries code value));
       last = last ∙ f.last ∙ sym (last_value_entry entries code value);
       taken = taken_value (Follows x.replay) (Follows y.replay) (IsNew x.replay) (IsNew y.replay) (codes_of design vars instance) (value_of (given_of x.replay)) (value_of (given_of y.replay)) entries code value follows stays
           (λ s bound. ap (λ g. bits_of (value_of g code)) given ∙ ap bits_of (get_or-set_same (given_of x.replay) code (Some (without_sign value)) None (f.of.within code (s, bound))))
@@ -92,25 +98,27 @@ changed x y code value ready made stays given wanted last follows habit design p
     }
 
 -- the first time
-pub first_opened : (x y : DumpReplay) (time : ℕ) → x.last ≡ None → y.replay ≡ x.replay → y.wanted ≡ x.wanted → y.last ≡ Some time
+pub first_opened : (x y : DumpReplay) (time : ℕ) → x.last ≡ None → y.replay ≡ x.replay → y.wanted ≡ x.wanted → y.first ≡ Some time → y.last ≡ Some time
     → (habit : Habit) (design : Design) (points : Points) (vars : List Var) (instance : List ℕ) (entries : List Entry) → HasFollowed x habit design points vars instance entries → HasFollowed y habit design points vars instance (entries ++ Time time ∷ [])
-first_opened x y time none replay wanted last habit design points vars instance entries f =
+first_opened x y time none replay wanted first last habit design points vars instance entries f =
     let ready : IsReady y.replay = subst IsReady (sym replay) f.of.ready in
+    let empty = no_times entries (sym f.last ∙ none) in
     let taken = taken_first (Follows x.replay) (IsNew x.replay) (codes_of design vars instance) (value_of (given_of x.replay)) entries time (sym f.last ∙ none) f.taken in
     record {
       of = of_again x y habit design points vars instance ready (ap made_of replay) (ap (λ r. length (given_of r)) replay) wanted f.of;
+      first = first ∙ ap (λ ts. first_of (ts ++ time ∷ [])) (sym empty) ∙ ap first_of (sym (times_time entries time));
       last = last ∙ sym (last_time_append None entries (Time time ∷ []));
       taken = subst (λ r. HasTaken (Follows r) (IsNew r) (codes_of design vars instance) (value_of (given_of r)) (entries ++ Time time ∷ [])) (sym replay) taken;
     }
 
 -- a later time, once the step of the last one is closed
-pub later_opened : (x z y : DumpReplay) (last time : ℕ) → IsReady z.replay → IsStarted z.replay → made_of z.replay ≡ made_of x.replay → given_of z.replay ≡ given_of x.replay → z.wanted ≡ x.wanted → x.last ≡ Some last
-    → y.replay ≡ z.replay → y.wanted ≡ z.wanted → y.last ≡ Some time
+pub later_opened : (x z y : DumpReplay) (last time : ℕ) → IsReady z.replay → IsStarted z.replay → made_of z.replay ≡ made_of x.replay → given_of z.replay ≡ given_of x.replay → z.wanted ≡ x.wanted → z.first ≡ x.first → x.last ≡ Some last
+    → y.replay ≡ z.replay → y.wanted ≡ z.wanted → y.first ≡ z.first → y.last ≡ Some time
     → ((habit : Habit) (design : Design) (points : Points) (vars : List Var) (instance : List ℕ) (entries more : List Entry) (next : ℕ) → AreEntries vars entries → Rises None (entries ++ Time next ∷ more) → last_time None entries ≡ Some last
     → HasFollowed x habit design points vars instance entries → Follows z.replay (dump_with (codes_of design vars instance) entries next more) last)
     → (habit : Habit) (design : Design) (points : Points) (vars : List Var) (instance : List ℕ) (entries : List Entry) → AreEntries vars entries → HasFollowed x habit design points vars instance entries
     → HasFollowed y habit design points vars instance (entries ++ Time time ∷ [])
-later_opened x z y last time ready started made given wanted had replay kept opened closed habit design points vars instance entries are f =
+later_opened x z y last time ready started made given wanted began had replay kept begins opened closed habit design points vars instance entries are f =
     let is_last : last_time None entries ≡ Some last = sym f.last ∙ had in
     let codes = codes_of design vars instance in
     let have : HaveValues codes (given_of x.replay) = subst (λ g. HaveValues codes g) given (subst (λ cs. HaveValues cs (given_of z.replay)) (ap (λ (m : Made). m.codes) made ∙ f.of.codes) (ready.begun started)) in
@@ -118,6 +126,7 @@ later_opened x z y last time ready started made given wanted had replay kept ope
     (λ more rises. closed habit design points vars instance entries more time are rises is_last f) f.taken in
     record {
       of = of_again x y habit design points vars instance (subst IsReady (sym replay) ready) (ap made_of replay ∙ made) (ap (λ r. length (given_of r)) replay ∙ ap length given) (kept ∙ wanted) f.of;
+      first = begins ∙ began ∙ f.first ∙ sym (first_kept (times_in entries) time (some_times entries last is_last)) ∙ ap first_of (sym (times_time entries time));
       last = opened ∙ sym (last_time_append None entries (Time time ∷ []));
       taken =
           subst (λ r. HasTaken (Follows r) (IsNew r) codes (value_of (given_of r)) (entries ++ Time time ∷ [])) (sym replay)

@@ -21,7 +21,9 @@ use Rattle.signal_binding.specs.Binding.{IsBindable, codes_of}
 use Rattle.code_values.specs.Values.{value_of}
 use Rattle.score_tables.specs.Scored.{AreScored}
 use Rattle.dump_replay.specs.Taken.{HasTaken}
+use Rattle.dump_replay.specs.Windows.{first_of}
 use Rattle.bound_codes.specs.Codes.{AreWanted, IsCoded}
+use Rattle.shown_dumps.specs.Said.{times_in}
 use Rattle.dump_replay.specs.declared.replay.DumpReplay.{DumpReplay}
 
 -- the replay is one of this design, whose inputs move by this habit, and of its points, of which the instance is the top in a dump with these variables
@@ -42,6 +44,7 @@ Follows x dump t = HasFollowedDump x dump t
 -- it was given these entries, and has followed each dump that begins with them up to the last time but one
 pub record HasFollowed (x : DumpReplay) (habit : Habit) (design : Design) (points : Points) (vars : List Var) (instance : List ℕ) (entries : List Entry) : Type 0 where
   pub of : IsReplayOf x habit design points vars instance
+  pub first : x.first ≡ first_of (times_in entries)
   pub last : x.last ≡ last_time None entries
   pub taken : HasTaken (Follows x.replay) (IsNew x.replay) (codes_of design vars instance) (value_of (given_of x.replay)) entries
 

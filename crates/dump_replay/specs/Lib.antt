@@ -1,4 +1,5 @@
 pub mod Taken
+pub mod Windows
 pub mod Followed
 pub mod Faults
 pub use Rattle.cover_marks.specs as cover_marks

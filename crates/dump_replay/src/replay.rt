@@ -20,10 +20,14 @@ ghost use Rattle.vcd_reader.specs.declared.entry.Entry.{Entry};
 ghost use Rattle.vcd_reader.specs.declared.entry.Entry.TheVariants as entry;
 ghost use Rattle.vcd_reader.specs.declared.vars.Var.{Var as TheVar};
 ghost use Rattle.dump_replay.specs.Faults.{IsReplayFault};
+ghost use Rattle.dump_replay.specs.Windows.{span_of};
+ghost use Rattle.score_tables.specs.Windows.{windows_of};
 
 use bound_codes::{coded_flags, signal_codes};
+use cov_host::{NoMemory, Sequence};
 use cover_marks::Marks;
 use cover_points::{MOST_POINTS, Points};
+use coverage_db::Window;
 use design_model::Design;
 use early_sets::Habit;
 use four_state::Four;
@@ -43,6 +47,8 @@ pub struct DumpReplay<'a> {
     replay: Replay<'a>,
     /// By code, whether a signal has it.
     wanted: Vec<bool>,
+    /// The first time.
+    first: Option<u64>,
     /// The last time, of which the step is not closed.
     last: Option<u64>,
 }
@@ -53,6 +59,7 @@ impl Drop for DumpReplay<'_> {
         let DumpReplay {
             replay: _,
             wanted: _,
+            first: _,
             last: _,
         } = self;
     }
@@ -85,6 +92,7 @@ impl<'a> DumpReplay<'a> {
         Ok(DumpReplay {
             replay,
             wanted,
+            first: None,
             last: None,
         })
     }
@@ -126,6 +134,7 @@ impl<'a> DumpReplay<'a> {
         match self.last {
             Some(last) => self.open_later(last, time),
             None => {
+                self.first = Some(time);
                 self.last = Some(time);
                 Ok(())
             }
@@ -150,6 +159,28 @@ impl<'a> DumpReplay<'a> {
         Ok(())
     }
 
+    /// The windows of the dump, once it has ended: one from its first time to its last, where it has two times.
+    pub fn windows(&self, alloc: Global) -> Result<Sequence<Window>, NoMemory>
+        ensures { IfOk result (λ windows. (habit : TheHabit) (design : TheDesign) (points : ThePoints) (vars : List TheVar) (instance : List ℕ) (entries : List Entry) → Rises None entries
+            → HasFollowed self.now habit design points vars instance entries → windows ≡ windows_of (dump_of (codes_of design vars instance) (steps_of entries)).times) }
+    {
+        let mut windows = Sequence::new(alloc);
+        if let Some(window) = self.span() {
+            windows.push(window)?;
+        }
+        Ok(windows)
+    }
+
+    /// From the first time to the last, where they are two.
+    fn span(&self) -> Option<Window>
+        ensures { result ≡ span_of self.now.first self.now.last }
+    {
+        match (self.first, self.last) {
+            (Some(first), Some(last)) if first < last => Some(Window { first, last }),
+            _ => None,
+        }
+    }
+
     /// The marks of the points at the end of the dump. The step of the last time is not closed.
     pub fn finish(self) -> Marks
         requires ready { IsReady self.replay }
@@ -160,6 +191,7 @@ impl<'a> DumpReplay<'a> {
         let DumpReplay {
             replay,
             wanted: _,
+            first: _,
             last: _,
         } = self;
         replay.finish()
@@ -175,6 +207,7 @@ impl<'a> DumpReplay<'a> {
         ensures made { made_of self.new.replay ≡ made_of self.old.replay }
         ensures given { given_of self.new.replay ≡ given_of self.old.replay }
         ensures wanted { self.new.wanted ≡ self.old.wanted }
+        ensures first { self.new.first ≡ self.old.first }
         ensures last { self.new.last ≡ self.old.last }
         ensures started { OnOk result (IsStarted self.new.replay) }
         ensures followed { OnOk result ((habit : TheHabit) (design : TheDesign) (points : ThePoints) (vars : List TheVar) (instance : List ℕ) (entries more : List Entry) (next : ℕ)

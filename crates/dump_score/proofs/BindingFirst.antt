@@ -41,7 +41,12 @@ module _ (habit : Habit) (design : Design) (instance text : List ℕ) (f : BindF
 
   pub no_fault : (kind : DumpKind) (byte : ℕ) → IsTextFault habit design instance text (score_fault.Dump (dump_fault.At kind byte)) → ⊥
   no_fault kind byte (first, inl none) = none is.0 is.1
-  no_fault kind byte (first, inr binds) = not_bound binds.0 binds.1 binds.2
+  no_fault kind byte (first, inr (binds, none)) = not_bound binds.0 binds.1 binds.2
 
   pub no_replay : (r : ReplayFault) → IsTextFault habit design instance text (score_fault.Replay r) → ⊥
   no_replay r says = not_bound says.0 says.1 (replay_binds habit design says.0.vars instance says.0.items r says.2)
+
+-- a text is not refused for a first value that is missing and for a fault at once
+pub first_values : (habit : Habit) (design : Design) (instance text : List ℕ) (s : ℕ) (kind : DumpKind) (byte : ℕ) → IsTextFault habit design instance text (score_fault.Replay (NoBaseline s)) → IsTextFault habit design instance text (score_fault.Dump (dump_fault.At kind byte)) → ⊥
+first_values habit design instance text s kind byte says (first, inl none) = none says.0 says.1
+first_values habit design instance text s kind byte says (first, inr (binds, none)) = none says.0 s says.1 says.2

@@ -1,5 +1,6 @@
 pub mod FileLemmas
 pub mod Stepping
+pub mod FirstValues
 pub mod Widths
 pub mod Opening
 pub mod Scored

@@ -21,7 +21,7 @@ use Rattle.dump_replay.specs.Followed.{HasFollowed}
 use Rattle.dump_replay.specs.declared.replay.DumpReplay.{DumpReplay}
 use Rattle.signal_binding.specs.Binding.{IsBindFault, IsBindable}
 use Rattle.whole_files.specs.Effects.{OnlyReads}
-use Rattle.dump_score.specs.Faults.{Binds, IsDumpFault, IsEndFault, IsFaultOfHeader, IsFileFault, IsFoundFault, IsScoreFault}
+use Rattle.dump_score.specs.Faults.{Binds, IsDumpFault, IsEndFault, IsFaultOfHeader, IsFileFault, IsFoundFault, IsScoreFault, LacksNone}
 use Rattle.dump_score.specs.Reading.{HasReadFile, IsFile}
 use Rattle.dump_score.specs.Scoring.{CanEnd, HasOpened, IsOpen, IsScoring, IsScoringSome, behind}
 use Rattle.dump_score.specs.declared.fault.ScoreFault.{ScoreFault}
@@ -104,13 +104,13 @@ begins_more text rest b begun = record {
   stands = begun.stands;
 }
 
-named_fault : (design : Design) (instance text : List ℕ) (f : DumpFault) → HasFault text f → Binds design instance text → IsDumpFault design instance text f
-named_fault design instance text dump_fault.NoMemory is binds = tt
-named_fault design instance text (dump_fault.At kind byte) is binds = (inl is, inr binds)
+named_fault : (design : Design) (instance text : List ℕ) (f : DumpFault) → HasFault text f → Binds design instance text → LacksNone design instance text → IsDumpFault design instance text f
+named_fault design instance text dump_fault.NoMemory is binds none = tt
+named_fault design instance text (dump_fault.At kind byte) is binds none = (inl is, inr (binds, none))
 
-named_end : (design : Design) (instance text : List ℕ) (f : DumpFault) → EndsWithFault text f → Binds design instance text → IsDumpFault design instance text f
-named_end design instance text dump_fault.NoMemory is binds = tt
-named_end design instance text (dump_fault.At kind byte) is binds = (inr is, inr binds)
+named_end : (design : Design) (instance text : List ℕ) (f : DumpFault) → EndsWithFault text f → Binds design instance text → LacksNone design instance text → IsDumpFault design instance text f
+named_end design instance text dump_fault.NoMemory is binds none = tt
+named_end design instance text (dump_fault.At kind byte) is binds none = (inr is, inr (binds, none))
 
 -- a design that is scored is bound, whatever comes after
 scoring_binds : (body : BodyRow) (replay : DumpReplay) (habit : Habit) (design : Design) (points : Points) (vars : List Var) (instance text rest : List ℕ) → IsScoring body replay habit design points vars instance text → Binds design instance (text ++ rest)
@@ -137,7 +137,7 @@ can_end_binds body replay habit design points vars instance text can = (
 pub found_in_file : (name : List ℕ) (before after now : Outside) (habit : Habit) (design : Design) (instance text : List ℕ) (f : ScoreFault) → HasReadFile name before now text → ((rest : List ℕ) → Binds design instance (text ++ rest)) → IsFoundFault habit design instance text f → IsScoreFault name before after habit design instance f
 found_in_file name before after now habit design instance text (fault.Dump f) file binds is =
     let whole = file_of name text before now file in
-    (text ++ whole.0, whole.1, named_fault design instance (text ++ whole.0) f (fault_stays text whole.0 f is) (binds whole.0))
+    (text ++ whole.0, whole.1, named_fault design instance (text ++ whole.0) f (fault_stays text whole.0 f is.0) (binds whole.0) (is.1 whole.0))
 found_in_file name before after now habit design instance text (fault.Replay f) file binds is =
     let whole = file_of name text before now file in
     (text ++ whole.0, whole.1, (is.0, inl (begins_more text whole.0 is.0 is.1), is.2))
@@ -147,7 +147,7 @@ found_in_file name before after now habit design instance text (fault.Bind f) fi
 
 -- so does one at its end
 pub end_in_file : (name : List ℕ) (before after : Outside) (habit : Habit) (design : Design) (instance text : List ℕ) (f : ScoreFault) → IsFile before name text → Binds design instance text → IsEndFault habit design instance text f → IsScoreFault name before after habit design instance f
-end_in_file name before after habit design instance text (fault.Dump f) file binds is = (text, file, named_end design instance text f is binds)
+end_in_file name before after habit design instance text (fault.Dump f) file binds is = (text, file, named_end design instance text f is.0 binds is.1)
 end_in_file name before after habit design instance text (fault.Replay f) file binds is = (text, file, (is.0, inr is.1, is.2))
 end_in_file name before after habit design instance text fault.NoMemory file binds is = absurd is
 end_in_file name before after habit design instance text (fault.Refused call) file binds is = absurd is

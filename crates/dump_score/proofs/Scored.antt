@@ -5,8 +5,11 @@ use Rattle.std.proofs.lemmas.List.Elements.{All-head, All-tail}
 use Rattle.cov_host.specs.Outside.{Outside}
 use Rattle.dump_replay.specs.cover_marks.declared.marks.Marks.{Marks}
 use Rattle.cover_points.specs.declared.listing.Points.{Points}
+use Rattle.coverage_db.specs.Table.{AreWindows}
 use Rattle.coverage_db.specs.declared.db.Db.{Db}
+use Rattle.coverage_db.specs.declared.window.Window.{Window}
 use Rattle.design_model.specs.Design.{In}
+use Rattle.design_model.specs.Shows.{AreRising}
 use Rattle.cover_points.specs.design_machines.state_machines.Machines.{StateMachines}
 use Rattle.design_model.specs.View.{design_view}
 use Rattle.design_model.specs.declared.design.Design.{Design}
@@ -16,7 +19,9 @@ use Rattle.entry_laws.proofs.Texts.{body_entries}
 use Rattle.entry_laws.specs.Entries.{AreEntries, IsEntry}
 use Rattle.event_machine.specs.Habit.{Habit}
 use Rattle.dump_replay.specs.score_tables.Scored.{HasSmallTimes, IsScoreTable}
-use Rattle.dump_replay.proofs.shown_dumps.Times.{times_are}
+use Rattle.dump_replay.specs.score_tables.Windows.{windows_of}
+use Rattle.dump_replay.proofs.score_tables.Windows.{windows_fit}
+use Rattle.dump_replay.proofs.shown_dumps.Times.{times_are, times_rise as in_rises}
 use Rattle.dump_replay.specs.shown_dumps.Bound.{IsBound}
 use Rattle.dump_replay.specs.shown_dumps.Said.{times_in}
 use Rattle.dump_replay.specs.shown_dumps.Shown.{bound_dump, dump_of}
@@ -49,6 +54,12 @@ module _ (replay : DumpReplay) (habit : Habit) (design : Design) (points : Point
   pub scored_times : HasSmallTimes (bound_dump design said instance)
   scored_times t at =
       small_times scored.b.vars scored.b.items (body_entries text scored.b (inr scored.ends)) t (subst (λ ts. In t ts) (times_are scored.b.items) at)
+
+  -- the windows of the dump can be written
+  pub scored_windows : (windows : List Window) → windows ≡ windows_of (dump_of (codes_of design vars instance) (steps_of scored.b.items)).times → AreWindows windows
+  scored_windows windows are =
+      let rising : AreRising (bound_dump design said instance).times = subst AreRising (sym (times_are scored.b.items)) (in_rises scored.b.items scored_rises) in
+      subst AreWindows (sym are) (windows_fit (bound_dump design said instance).times rising scored_times)
 
   scored_bound : IsBound design said instance
   scored_bound = record {

@@ -4,9 +4,9 @@ use Rattle.std.proofs.Math.Seq.{take-add, take-length}
 use Rattle.design_model.specs.declared.design.Design.{Design}
 use Rattle.event_machine.specs.Habit.{Habit}
 use Rattle.vcd_reader.proofs.RisingTimes.{times_rise, times_rise_so_far}
-use Rattle.vcd_reader.specs.Pieces.{BodyHasRead, IsFaultAt, StepsTo}
+use Rattle.vcd_reader.specs.Pieces.{BodyHasRead, StepsTo}
 use Rattle.vcd_reader.specs.Reading.{Body}
-use Rattle.vcd_reader.specs.Text.{EndsAs, HasFault}
+use Rattle.vcd_reader.specs.Text.{EndsAs}
 use Rattle.vcd_reader.specs.Times.{Rises}
 use Rattle.vcd_reader.specs.Wanted.{IsUnwanted, item_by, saying_more}
 use Rattle.vcd_reader.specs.WantedPieces.{HearsTo, kept_value}
@@ -112,10 +112,6 @@ further text piece used more = append_assoc text (take used piece) (take more (d
 
 pub all_of : (text piece : List ℕ) (used : ℕ) → (text ++ take used piece) ++ drop used piece ≡ text ++ piece
 all_of text piece used = append_assoc text (take used piece) (drop used piece) ∙ ap (λ t. text ++ t) (take-append-drop used piece)
-
-pub found_at : (text piece : List ℕ) (f : DumpFault) → 0 < length piece → IsFaultAt text piece f → HasFault (text ++ piece) f
-found_at text [] f some is = absurd (omega (arith, some))
-found_at text (byte ∷ piece) f some is = is
 
 fault_at : (habit : Habit) (design : Design) (vars : List Var) (instance : List ℕ) (f : ReplayFault) (b : Body) (entries : List Entry) → b.vars ≡ vars → b.items ≡ entries → IsReplayFault habit design vars instance entries f → IsReplayFault habit design b.vars instance b.items f
 fault_at habit design vars instance f b entries e g h =
@@ -228,9 +224,6 @@ module _ (says : Item) (replay : DumpReplay) (habit : Habit) (design : Design) (
   end_fault f faults = saying_ends habit design vars instance text s.next (b.items ++ entries_of says) f (s.vars ∙ vars_are) s.items s.ends (faults habit design points vars instance b.items end_fits end_rises followed)
 
 -- ---- a part of a piece
-
-pub found_in_piece : (text piece : List ℕ) (used : ℕ) (f : DumpFault) → 0 < length (drop used piece) → IsFaultAt (text ++ take used piece) (drop used piece) f → HasFault (text ++ piece) f
-found_in_piece text piece used f some is = subst (λ t. HasFault t f) (all_of text piece used) (found_at (text ++ take used piece) (drop used piece) f some is)
 
 pub say_found_in_piece : (wanted : List Bool) (says : Item) (step used : ℕ) (body new : BodyRow) (replay : DumpReplay) (piece : List ℕ) (habit : Habit) (design : Design) (points : Points) (vars : List Var) (instance text : List ℕ) (f : ReplayFault) → 0 < length (drop used piece) → Steps wanted says step body new (drop used piece) → PassesOver wanted replay
     → Faults says replay f → IsScoring body replay habit design points vars instance (text ++ take used piece) → IsFoundFault habit design instance (text ++ piece) (fault.Replay f)

@@ -1,8 +1,9 @@
 -- Why a design is not scored by the dump of a text.
-use Rattle.std.specs.Prelude.{◌⊎◌, ℕ, List}
+use Rattle.std.specs.Prelude.{◌⊎◌, ℕ, List, ◌++◌}
 use Rattle.cov_host.specs.Outside.{Outside}
 use Rattle.design_model.specs.declared.design.Design.{Design}
 use Rattle.dump_replay.specs.Faults.{IsReplayFault}
+use Rattle.dump_replay.specs.shown_dumps.Bound.{HasNoBaseline}
 use Rattle.event_machine.specs.Habit.{Habit}
 use Rattle.signal_binding.specs.Binding.{IsBindFault, IsBindable}
 use Rattle.vcd_reader.specs.Dump.{BeginsAs, HasNoBody, SaysBody}
@@ -22,6 +23,10 @@ SaysSome text P = (b : Body) × SaysBody text b × P b
 abbrev pub Binds : Design → List ℕ → List ℕ → Type 0
 Binds design instance text = SaysSome text (λ b. IsBindable design b.vars instance)
 
+-- as far as the text says, each signal of the design that is bound has a value before the second time
+abbrev pub LacksNone : Design → List ℕ → List ℕ → Type 0
+LacksNone design instance text = (b : Body) (s : ℕ) → SaysBody text b → HasNoBaseline design b.vars instance b.items s → ⊥
+
 -- the fault is the first one of the text, or that of its end
 abbrev pub IsFirstFault : List ℕ → DumpFault → Type 0
 IsFirstFault text f = HasFault text f ⊎ EndsWithFault text f
@@ -31,10 +36,10 @@ abbrev pub IsFaultOfHeader : List ℕ → DumpFault → Type 0
 IsFaultOfHeader text dump_fault.NoMemory = Unit {0}
 IsFaultOfHeader text (dump_fault.At kind byte) = IsFirstFault text (dump_fault.At kind byte) × HasNoBody text
 
--- the fault is one of the header, or one of the body of a text to which the design is bound, if it is not want of memory
+-- the fault is one of the header, or one of the body of a text to which the design is bound and which lacks no first value before it, if it is not want of memory
 abbrev pub IsDumpFault : Design → List ℕ → List ℕ → DumpFault → Type 0
 IsDumpFault design instance text dump_fault.NoMemory = Unit {0}
-IsDumpFault design instance text (dump_fault.At kind byte) = IsFirstFault text (dump_fault.At kind byte) × (HasNoBody text ⊎ Binds design instance text)
+IsDumpFault design instance text (dump_fault.At kind byte) = IsFirstFault text (dump_fault.At kind byte) × (HasNoBody text ⊎ (Binds design instance text × LacksNone design instance text))
 
 -- the text of the dump of the design has the fault, of which the instance is the top; a fault of the replay is one of what the text says
 -- up to a time, whatever comes after it
@@ -57,13 +62,13 @@ IsScoreFault name before after habit design instance other = IsFileFault name be
 
 -- what was read has the fault, whatever comes after it
 abbrev pub IsFoundFault : Habit → Design → List ℕ → List ℕ → ScoreFault → Type 0
-IsFoundFault habit design instance text (fault.Dump f) = HasFault text f
+IsFoundFault habit design instance text (fault.Dump f) = HasFault text f × ((rest : List ℕ) → LacksNone design instance (text ++ rest))
 IsFoundFault habit design instance text (fault.Replay f) = (b : Body) × BeginsAs text b × IsReplayFault habit design b.vars instance b.items f
 IsFoundFault habit design instance text other = ⊥
 
 -- the end of the text has the fault
 abbrev pub IsEndFault : Habit → Design → List ℕ → List ℕ → ScoreFault → Type 0
-IsEndFault habit design instance text (fault.Dump f) = EndsWithFault text f
+IsEndFault habit design instance text (fault.Dump f) = EndsWithFault text f × LacksNone design instance text
 IsEndFault habit design instance text (fault.Replay f) = (b : Body) × EndsAs text b × IsReplayFault habit design b.vars instance b.items f
 IsEndFault habit design instance text other = ⊥
 

@@ -88,6 +88,9 @@ fn score_file<H: Host>(
     let span = opened.span;
     score_body(host, piece, &span, &mut opened.body, &mut replay)?;
     score_end(&mut opened.body, &mut replay)?;
+    let windows = replay.windows(alloc)?;
     let marks = replay.finish();
-    Ok(score_table(alloc, design, points, &marks, sources)?)
+    Ok(score_table(
+        alloc, design, points, &marks, windows, sources,
+    )?)
 }

@@ -32,11 +32,6 @@ with_true : (a : Bool) → (a && true) ≡ a
 with_true true = refl
 with_true false = refl
 
--- what is told after other faults, where the test holds
-pub goes_both : (t u v : Tally) (s r : Bool) (xs ys : List Fault) (test : Bool) → u ≡ after_faults t xs → s ≡ none xs → v ≡ after_faults u ys → r ≡ none ys → test ≡ true →
-    (v ≡ after_faults t (xs ++ (if test then ys else []))) × ((s && r) ≡ none (xs ++ (if test then ys else [])))
-goes_both t u v s r xs ys test p q a b e = rw e (met_then t u v xs ys p a, none_then_both s r xs ys q b)
-
 -- one fault by a second test, where the first holds
 pub one_goes_on : (t u v : Tally) (s r : Bool) (xs : List Fault) (f : Fault) (test bad : Bool) → u ≡ after_faults t xs → s ≡ none xs → s ≡ true → v ≡ after_faults u (fault_if bad f) → r ≡ none (fault_if bad f) → test ≡ true →
     (v ≡ after_faults t (xs ++ fault_if (test && bad) f)) × (r ≡ none (xs ++ fault_if (test && bad) f))

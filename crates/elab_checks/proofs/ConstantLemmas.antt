@@ -34,7 +34,7 @@ none_other g (x ∷ xs) a =
 
 -- the faults of what names constants alone
 pub constant_faults_are : (g : Scope) (e : Expr) (fs : List Fault) → names_constants g e ≡ true → constant_faults g e fs ≡ fs
-constant_faults_are g e fs a = rw (none_missing g (identifiers e) a, none_other g (identifiers e) a, a) refl
+constant_faults_are g e fs a = rw (none_missing g (identifiers e) a, none_other g (identifiers e) a) refl
 
 -- it is sound where it has no fault as a constant
 pub sound_is : (g : Scope) (e : Expr) (fs : List Fault) → is_sound_constant g e fs ≡ (none (constant_faults g e fs) && names_constants g e)

@@ -1,16 +1,11 @@
 -- The faults of the header of a loop in parts, and the scope after its turns.
-use Rattle.std.specs.Prelude.{ℕ, Bool, not, ◌&&◌, ◌||◌, if◌then◌else◌, List, [], ◌++◌, Option, Some, None}
-use Rattle.verilog_tree.specs.Tree.{Expr, Header}
-use Rattle.flat_design.specs.Expressions.{faults}
+use Rattle.std.specs.Prelude.{ℕ, Bool, not, ◌&&◌, ◌||◌, List, ◌++◌, Option, Some, None}
+use Rattle.verilog_tree.specs.Tree.{Header}
 use Rattle.flat_design.specs.Fault.{Fault, none}
 use Rattle.flat_design.specs.Loops.{over_faults, named_faults, in_some_turn}
-use Rattle.flat_design.specs.Scope.{Scope, names_constants, names_faulty, with_entry}
+use Rattle.flat_design.specs.Scope.{Scope, names_faulty, with_entry}
 use Rattle.flat_design.specs.declared.entry.Entry.{Entry}
 use Rattle.elab_scope.specs.Entries.{without_entry}
-
--- the faults of a constant, of what names constants alone
-abbrev pub faults_of_constant : Scope → Expr → List Fault
-faults_of_constant g e = if names_constants g e then faults g e else []
 
 -- the faults of the names of a header outside its turns
 abbrev pub outer_faults : Scope → Header → List Fault

@@ -150,9 +150,6 @@ pub fn check_constant<'a>(scope: &Scope, expr: &'a Expr, tally: &mut Tally<'a>) 
     ensures sound { result ≡ none (spec.constant_faults (binding_of scope.now) (expr_view expr.now) (faults (binding_of scope.now) (expr_view expr.now))) }
 {
     let known = check_declared(scope, expr, tally) & check_constancy(scope, expr, tally);
-    if !names_constants(scope, expr) {
-        return known;
-    }
     known & check(scope, expr, tally)
 }
 

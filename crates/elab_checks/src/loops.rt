@@ -5,7 +5,7 @@ ghost use Rattle.elab_const.specs.Calls.{told};
 ghost use Rattle.elab_const.specs.Loops.{turns_answer};
 ghost use Rattle.elab_scope.specs.Entries.{IsEntry};
 ghost use Rattle.elab_scope.specs.Tally.{after_faults};
-ghost use Rattle.elab_checks.specs.Turns.{outer_faults, inner_faults, outer_names_faulty, inner_names_faulty, is_sound, faults_of_constant, restored};
+ghost use Rattle.elab_checks.specs.Turns.{outer_faults, inner_faults, outer_names_faulty, inner_names_faulty, is_sound, restored};
 ghost use Rattle.elab_scope.specs.View.{fault_view};
 ghost use Rattle.flat_design.specs.Fault.{answer_faults, fault_if, none};
 ghost use Rattle.flat_design.specs.Identifiers.{base_name as spec_base_name};
@@ -18,9 +18,7 @@ use crate::targets::is_name;
 use crate::undeclared::check_declared;
 use cov_host::{Name, NoMemory, Place};
 use elab_const::{ConstFault, ConstKind, Turns};
-use elab_scope::{
-    FoundFault, Scope, Tally, base_name, names_constants, names_faulty, names_no_constant,
-};
+use elab_scope::{FoundFault, Scope, Tally, base_name, names_faulty, names_no_constant};
 use flat_design::{ElabKind, Entry};
 use four_state::{Bit, Four};
 use std::alloc::Global;
@@ -166,7 +164,7 @@ fn is_over_one_name(header: &For) -> bool
         && base_name(&header.name).name == base_name(&header.target).name
 }
 
-/// Reports the faults of an expression of the header at this place, which names constants alone, and says whether it
+/// Reports the faults of an expression of the header at this place, which may name constants alone, and says whether it
 /// has no fault.
 fn check_named<'a>(scope: &Scope, place: Place, expr: &'a Expr, tally: &mut Tally<'a>) -> bool
     ensures met { tally.new ≡ after_faults tally.old (spec.named_faults (binding_of scope.now) place (expr_view expr.now)) }
@@ -176,7 +174,7 @@ fn check_named<'a>(scope: &Scope, place: Place, expr: &'a Expr, tally: &mut Tall
     let other = names_no_constant(scope, expr);
     let fault = FoundFault::Constant(ConstKind::LoopNotConstant, place);
     let constant = tell_if(other, fault, tally);
-    let sound = check_constant(scope, expr, tally);
+    let sound = check(scope, expr, tally);
     declared & constant & sound
 }
 
@@ -189,15 +187,4 @@ pub(crate) fn tell_if<'a>(test: bool, fault: FoundFault<'a>, tally: &mut Tally<'
         tally.fault(fault);
     }
     !test
-}
-
-/// Reports the faults of an expression that names constants alone, and says whether it has no fault.
-fn check_constant<'a>(scope: &Scope, expr: &'a Expr, tally: &mut Tally<'a>) -> bool
-    ensures met { tally.new ≡ after_faults tally.old (faults_of_constant (binding_of scope.now) (expr_view expr.now)) }
-    ensures sound { result ≡ none (faults_of_constant (binding_of scope.now) (expr_view expr.now)) }
-{
-    if !names_constants(scope, expr) {
-        return true;
-    }
-    check(scope, expr, tally)
 }

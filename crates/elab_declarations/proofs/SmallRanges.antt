@@ -10,7 +10,7 @@ use Rattle.verilog_tree.specs.declared.item.Named.{Named}
 use Rattle.verilog_tree.specs.Tree.{Declared, Expr, RangeExpr, Item, ItemForm, port_item, net_item, variable_item, integer_item, parameter_item, continuous_item, always_item, initial_item, instance_item, Module}
 use Rattle.elab_const.specs.Faults.{is_bad_bound}
 use Rattle.elab_const.specs.Meaning.{count_of, number_of}
-use Rattle.flat_design.specs.Declarations.{Declaration, Sort, a_net, a_variable, words_from, an_integer, a_parameter, some_instance, add_declaration, all_declarations, bounds_faults, completed, completes, declaration, declarations, declarations_from, is_sound_range, is_sound_vector, is_variable, item_declarations, range_value, sort_if, vector_faults, words_faults, words_sort}
+use Rattle.flat_design.specs.Declarations.{Declaration, Sort, a_net, a_variable, words_from, an_integer, a_parameter, some_instance, faulty, faulty_memory, add_declaration, all_declarations, bounds_faults, completed, completes, declaration, declarations, declarations_from, is_sound_range, is_sound_vector, is_any_memory, is_faulty, is_variable, item_declarations, range_value, sort_if, vector_faults, words_faults, words_sort}
 use Rattle.flat_design.specs.Expressions.{bound_faults, faults}
 use Rattle.flat_design.specs.Fault.{Fault, fault_if, none}
 use Rattle.flat_design.specs.Scope.{Scope, names, names_faulty, natural_number}
@@ -72,9 +72,13 @@ words_within g p (Some r) = by (none (words_faults g p r)) (is_sound_range g r) 
     by true false clean sound = tt
     by false b clean sound = tt
 
+faulty_within : (b : Bool) → AreFewWords (if b then faulty_memory else faulty)
+faulty_within true = tt
+faulty_within false = tt
+
 sort_within : (b : Bool) (s : Sort) → AreFewWords s → AreFewWords (sort_if b s)
 sort_within true s h = h
-sort_within false s h = tt
+sort_within false s h = faulty_within (is_any_memory s)
 
 either_within : (b : Bool) → AreFewWords (if b then a_variable else a_net)
 either_within true = tt
@@ -115,8 +119,12 @@ all_within : (g : Scope) (m : Module) → All IsInBounds (all_declarations g m)
 all_within g m =
     All-append IsInBounds _ _ (mapped_within (λ p. declaration p.name.place a_parameter None false None p.name) (λ p. declaration_within p.name.place a_parameter None false None p.name (vector_within g None) tt) m.params) (items_within g m.items)
 
+completed_sort_within : (a b : Bool) → AreFewWords (if a then faulty else (if b then a_variable else a_net))
+completed_sort_within true b = tt
+completed_sort_within false b = either_within b
+
 completed_within : (b : Bool) (c d : Declaration) → IsInBounds c → IsInBounds (if b then completed c d else c)
-completed_within true c d h = record { bits = h.bits; words = either_within (is_variable c.sort || is_variable d.sort) }
+completed_within true c d h = record { bits = h.bits; words = completed_sort_within (is_faulty c.sort || is_faulty d.sort) (is_variable c.sort || is_variable d.sort) }
 completed_within false c d h = h
 
 added_within : (cs : List Declaration) (d : Declaration) → All IsInBounds cs → IsInBounds d → All IsInBounds (add_declaration cs d)

@@ -3,7 +3,7 @@ use Rattle.std.specs.Prelude.{List, map}
 use Rattle.flat_design.specs.Declarations as spec
 use Rattle.elab_declarations.specs.declared.declaration.Declaration.{Declaration}
 use Rattle.elab_declarations.specs.declared.declaration.Sort.{Sort}
-use Rattle.elab_declarations.specs.declared.declaration.Sort.TheVariants.{Net, Variable, Memory, Integer, Parameter, Instance, Faulty}
+use Rattle.elab_declarations.specs.declared.declaration.Sort.TheVariants.{Net, Variable, Memory, Integer, Parameter, Instance, Faulty, FaultyMemory}
 
 -- what the declared name is
 abbrev pub sort_view : Sort → spec.Sort
@@ -14,6 +14,7 @@ sort_view Integer = spec.an_integer
 sort_view Parameter = spec.a_parameter
 sort_view Instance = spec.some_instance
 sort_view Faulty = spec.faulty
+sort_view FaultyMemory = spec.faulty_memory
 
 -- the declared name
 abbrev pub declaration_view : Declaration → spec.Declaration

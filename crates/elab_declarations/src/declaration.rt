@@ -1,5 +1,6 @@
-ghost use Rattle.std.specs.Prelude.{◌≡◌, ◌||◌, not, if◌then◌else◌};
+ghost use Rattle.std.specs.Prelude.{◌≡◌, if◌then◌else◌};
 ghost use Rattle.elab_declarations.specs.DeclarationView.{declaration_view, sort_view};
+ghost use Rattle.elab_declarations.specs.ItemKind.{with_fault};
 ghost use Rattle.flat_design.specs.Declarations as spec;
 
 use cov_host::Place;
@@ -16,8 +17,10 @@ pub enum Sort {
     Integer,
     Parameter,
     Instance,
-    /// Its declaration has a fault.
+    /// A net or a variable whose range has a fault.
     Faulty,
+    /// A memory of which a range has a fault.
+    FaultyMemory,
 }
 
 /// A declared name.
@@ -40,47 +43,78 @@ pub struct Declaration<'a> {
 }
 
 impl Sort {
-    /// A net or a variable.
+    /// A net or a variable, also one whose range has a fault.
     fn is_vector(self) -> bool
-        ensures { result ≡ (spec.is_net (sort_view self) || spec.is_variable (sort_view self)) }
+        ensures { result ≡ spec.is_vector (sort_view self) }
     {
-        matches!(self, Sort::Net | Sort::Variable)
+        matches!(self, Sort::Net | Sort::Variable | Sort::Faulty)
     }
 
-    /// Whether its declaration has a fault.
+    /// A parameter.
+    pub(crate) fn is_parameter(self) -> bool
+        ensures { result ≡ spec.is_parameter (sort_view self) }
+    {
+        matches!(self, Sort::Parameter)
+    }
+
+    /// Whether its range has a fault.
     fn is_faulty(self) -> bool
         ensures { result ≡ spec.is_faulty (sort_view self) }
     {
-        matches!(self, Sort::Faulty)
+        matches!(self, Sort::Faulty | Sort::FaultyMemory)
+    }
+
+    /// What it is where a range has a fault.
+    pub(crate) fn with_fault(self) -> Sort
+        ensures { result ≡ with_fault self }
+    {
+        match self {
+            Sort::Memory(_) | Sort::FaultyMemory => Sort::FaultyMemory,
+            _ => Sort::Faulty,
+        }
+    }
+
+    /// The sort of two declarations of one port: faulty where one of them is, else a variable where one of them says
+    /// so.
+    fn completed(self, other: Sort) -> Sort
+        ensures { sort_view result ≡ spec.completed_sort (sort_view self) (sort_view other) }
+    {
+        if self.is_faulty() || other.is_faulty() {
+            Sort::Faulty
+        } else if matches!(self, Sort::Variable) || matches!(other, Sort::Variable) {
+            Sort::Variable
+        } else {
+            Sort::Net
+        }
     }
 }
 
 impl<'a> Declaration<'a> {
+    /// Whether the ranges of two declarations are equal, or one has a fault.
+    fn fits_range(&self, other: &Declaration) -> bool
+        ensures { result ≡ spec.fits_range (declaration_view self.now) (declaration_view other.now) }
+    {
+        self.sort.is_faulty() || other.sort.is_faulty() || is_same_range(self.range, other.range)
+    }
+
     /// Whether a port is declared once more by wire or reg, with the same sign and range (IEEE 1364-2001 clause
     /// 12.3.3).
-    fn completes(&self, other: &Declaration) -> bool
+    pub(crate) fn completes(&self, other: &Declaration) -> bool
         ensures { result ≡ spec.completes (declaration_view self.now) (declaration_view other.now) }
     {
         !self.twice
             && self.direction.is_some() != other.direction.is_some()
             && self.sort.is_vector()
             && other.sort.is_vector()
-            && is_same_range(self.range, other.range)
+            && self.fits_range(other)
             && self.signed == other.signed
     }
 
-    /// Whether a later declaration of the same name is a fault, of which neither has one of its own.
-    pub(crate) fn clashes(&self, other: &Declaration) -> bool
-        ensures { result ≡ not (spec.completes (declaration_view self.now) (declaration_view other.now) || spec.is_faulty (sort_view self.now.sort) || spec.is_faulty (sort_view other.now.sort)) }
+    /// Whether it is a port.
+    pub(crate) fn has_direction(&self) -> bool
+        ensures { result ≡ spec.has_direction (declaration_view self.now) }
     {
-        !(self.completes(other) || self.sort.is_faulty() || other.sort.is_faulty())
-    }
-
-    /// Whether it is a port, or has a fault.
-    pub(crate) fn is_port(&self) -> bool
-        ensures { result ≡ (spec.has_direction (declaration_view self.now) || spec.is_faulty (sort_view self.now.sort)) }
-    {
-        self.direction.is_some() || self.sort.is_faulty()
+        self.direction.is_some()
     }
 
     /// The first declaration of a name, completed by a later one where that declares a port once more.
@@ -94,13 +128,12 @@ impl<'a> Declaration<'a> {
         }
     }
 
-    /// Two declarations of one port in one, a variable where one of them says so.
+    /// Two declarations of one port in one.
     fn completed(&self, other: &Declaration) -> Declaration<'a>
         ensures { declaration_view result ≡ spec.completed (declaration_view self.now) (declaration_view other.now) }
     {
-        let variable = matches!(self.sort, Sort::Variable) || matches!(other.sort, Sort::Variable);
         Declaration {
-            sort: if variable { Sort::Variable } else { Sort::Net },
+            sort: self.sort.completed(other.sort),
             direction: self.direction.or(other.direction),
             twice: true,
             ..*self

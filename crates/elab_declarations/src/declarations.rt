@@ -79,17 +79,27 @@ impl<'a> Declarations<'a> {
         ensures { result ≡ spec.is_declared_again self.now (declaration_view declaration.now) }
     {
         match self.found.get(declaration.name.name.as_slice()) {
-            Some(first) => first.clashes(declaration),
+            Some(first) => !first.completes(declaration),
             None => false,
         }
     }
 
-    /// Whether a name has a direction, or a fault in its declaration.
+    /// Whether a name is declared as a parameter.
+    pub fn is_parameter(&self, name: &Name) -> bool
+        ensures { result ≡ spec.names_parameter self.now name.now }
+    {
+        match self.found.get(name.as_slice()) {
+            Some(declaration) => declaration.sort.is_parameter(),
+            None => false,
+        }
+    }
+
+    /// Whether a name has a direction.
     pub(crate) fn is_port(&self, name: &Name) -> bool
         ensures { result ≡ spec.is_port self.now name.now }
     {
         match self.found.get(name.as_slice()) {
-            Some(declaration) => declaration.is_port(),
+            Some(declaration) => declaration.has_direction(),
             None => false,
         }
     }

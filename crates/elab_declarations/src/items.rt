@@ -67,19 +67,19 @@ impl Kind {
     {
         Kind {
             item,
-            sort: if vector.sound { sort } else { Sort::Faulty },
+            sort: sort_if(vector.sound, sort),
             range: vector.range,
             signed,
             direction,
         }
     }
 
-    /// With another sort, if the range has no fault.
+    /// With another sort, which is that without a fault of the range.
     fn with_sort(&self, sound: bool, sort: Sort) -> Kind
         ensures { result ≡ record (self.now) { sort = kind_sort sound sort } }
     {
         Kind {
-            sort: if sound { sort } else { Sort::Faulty },
+            sort: sort_if(sound, sort),
             ..*self
         }
     }
@@ -98,6 +98,13 @@ impl Kind {
             twice: false,
         }
     }
+}
+
+/// The sort, if the range has no fault.
+fn sort_if(sound: bool, sort: Sort) -> Sort
+    ensures { result ≡ kind_sort sound sort }
+{
+    if sound { sort } else { sort.with_fault() }
 }
 
 /// Adds names of one kind.
@@ -200,7 +207,7 @@ fn memory_sort(words: Option<Range>) -> Sort
 {
     match words {
         Some(words) => Sort::Memory(words),
-        None => Sort::Faulty,
+        None => Sort::FaultyMemory,
     }
 }
 

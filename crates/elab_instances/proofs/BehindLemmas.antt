@@ -1,8 +1,9 @@
 -- Names that are bound one behind the other; of equal names the first counts.
 use Rattle.std.proofs.Common.{◌≡◌, ℕ, suc, ◌+◌, ◌<◌, Bool, true, false, cond, List, [], ◌∷◌, ◌++◌, map, length, drop, drop-cons, get_or, add-one, Option, Some, None, Result, Ok, Err, refl, sym, ap, ◌∙◌, inl, inr}
-use Rattle.std.specs.Prelude.{bytes_eq, if◌then◌else◌, is_some, OnOk}
+use Rattle.std.specs.Prelude.{bytes_eq, filter, if◌then◌else◌, is_some, OnOk}
 use Rattle.std.specs.Option.{option_or}
 use Rattle.std.proofs.lemmas.Bool.{cases_Bool}
+use Rattle.std.proofs.lemmas.List.Elements.{filter-append}
 use Rattle.std.proofs.lemmas.Slice.Eq.{bytes_eq-Decides}
 use Rattle.elab_const.proofs.ScopeLemmas.{fun_ext}
 use Rattle.elab_scope.specs.NameMap.{bound_to, with_binding}
@@ -72,6 +73,13 @@ bound_at F xs i d g h within here = rw (drop-cons xs i d within, add-one i, here
 -- the same where the one is at hand
 pub bound_next : {A V : Type 0} (F : A → List ℕ × V) (xs : List A) (i : ℕ) (x : A) (g h : List ℕ → Option V) → i < length xs → x ≡ get_or xs i x → h ≡ or_bound g (F x ∷ []) → or_bound h (map F (drop (i + 1) xs)) ≡ or_bound g (map F (drop i xs))
 bound_next F xs i x g h within is here = bound_at F xs i x g h within (here ∙ ap (λ y. or_bound g (F y ∷ [])) is)
+
+-- the same of those that pass a test
+pub passing_next : {A V : Type 0} (p : List ℕ × V → Bool) (F : A → List ℕ × V) (xs : List A) (i : ℕ) (x : A) (g h : List ℕ → Option V) → i < length xs → x ≡ get_or xs i x → h ≡ or_bound g (filter p (F x ∷ [])) →
+    or_bound h (filter p (map F (drop (i + 1) xs))) ≡ or_bound g (filter p (map F (drop i xs)))
+passing_next p F xs i x g h within is here =
+    let others = map F (drop (suc i) xs) in
+    rw (drop-cons xs i x within, ← is, add-one i, here) (or_append g (filter p (F x ∷ [])) (filter p others) ∙ ap (or_bound g) (sym (filter-append p (F x ∷ []) others)))
 
 -- the same where a call binds it
 pub bound_on_ok : {A E V : Type 0} (r : Result A E) (h g : List ℕ → Option V) (x : List ℕ) (v : V) → is_some (g x) ≡ false → OnOk r (h ≡ with_binding x v g) → OnOk r (h ≡ or_bound g ((x, v) ∷ []))

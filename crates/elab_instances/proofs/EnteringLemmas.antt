@@ -7,7 +7,7 @@ use Rattle.verilog_tree.specs.Tree.{Module, Param}
 use Rattle.four_state.specs.Vector.{Vector}
 use Rattle.flat_design.specs.Declarations.{Declaration, Override, constants_from, param_entry, with_param}
 use Rattle.flat_design.specs.Identifiers.{params_of}
-use Rattle.flat_design.specs.Instances.{Instantiation, constants, declared, entries, is_memory, is_own, other_names}
+use Rattle.flat_design.specs.Instances.{Instantiation, constants, declared, entries, is_memory, is_own, other_names, own_constants}
 use Rattle.flat_design.specs.Numbering.{one_if}
 use Rattle.flat_design.specs.Scope.{Scope, Bindings, binding_of, entry_or, no_names, with_bindings}
 use Rattle.flat_design.specs.declared.entry.Entry.{Entry}
@@ -20,7 +20,7 @@ use Rattle.elab_declarations.specs.DeclarationView.{declaration_view, declaratio
 use Rattle.elab_declarations.specs.declared.constants.BoundParam.{BoundParam}
 use Rattle.elab_declarations.specs.declared.declaration.Declaration as code
 use Rattle.elab_instances.specs.Behind.{or_bound}
-use Rattle.elab_instances.specs.Entering.{AreFew, IsInside, numbers_behind, numbers_past, role_entries}
+use Rattle.elab_instances.specs.Entering.{AreFew, IsInside, numbers_behind, numbers_past, own_bindings, role_entries}
 use Rattle.elab_instances.specs.Linked.{Linked, linked_of}
 use Rattle.elab_instances.specs.Roles.{role_of, role_entry, is_own_role, is_memory_role}
 use Rattle.elab_instances.specs.declared.entries.Inside.{Inside}
@@ -116,17 +116,17 @@ rest_within xs i x within is all =
 
 -- what was bound is the scope of the instance
 pub is_inside : {E : Type 0} (i : Instantiation) (n : Numbers) (ps : List BoundParam) (ds : List Declaration) (l : Linked) → bindings_view ps ≡ constants i.overrides i.of_module → ds ≡ declared i.overrides i.of_module → l ≡ linked_of i → (r : Result Inside E) →
-    IfOk r (λ inside. binding_of inside.scope ≡ or_bound (or_bound no_names (bindings_view ps)) (role_entries l n ds)) → IfOk r (λ inside. inside.next ≡ numbers_past l n ds) → IfOk r (IsInside i n)
+    IfOk r (λ inside. binding_of inside.scope ≡ or_bound (or_bound no_names (own_bindings ds (bindings_view ps))) (role_entries l n ds)) → IfOk r (λ inside. inside.next ≡ numbers_past l n ds) → IfOk r (IsInside i n)
 is_inside i n ps ds l params names links (Ok inside) scope next =
     let entered = declared i.overrides i.of_module in
     record {
       scope =
           scope
-          ∙ ap (λ bs. or_bound (or_bound no_names bs) (role_entries l n ds)) params
-          ∙ ap (λ k. or_bound (or_bound no_names (constants i.overrides i.of_module)) (role_entries k n ds)) links
-          ∙ ap (λ es. or_bound (or_bound no_names (constants i.overrides i.of_module)) (role_entries (linked_of i) n es)) names
-          ∙ ap (λ es. or_bound (or_bound no_names (constants i.overrides i.of_module)) es) (entries_by_role i n entered)
-          ∙ scope_bound (constants i.overrides i.of_module) (entries i.aliases i.of_module n.signal n.memory entered);
+          ∙ ap (λ bs. or_bound (or_bound no_names (own_bindings ds bs)) (role_entries l n ds)) params
+          ∙ ap (λ k. or_bound (or_bound no_names (own_bindings ds (constants i.overrides i.of_module))) (role_entries k n ds)) links
+          ∙ ap (λ es. or_bound (or_bound no_names (own_bindings es (constants i.overrides i.of_module))) (role_entries (linked_of i) n es)) names
+          ∙ ap (λ es. or_bound (or_bound no_names (own_constants i.overrides i.of_module)) es) (entries_by_role i n entered)
+          ∙ scope_bound (own_constants i.overrides i.of_module) (entries i.aliases i.of_module n.signal n.memory entered);
       next = next ∙ ap (λ k. numbers_past k n ds) links ∙ ap (numbers_past (linked_of i) n) names ∙ numbers_by_count i n entered;
     }
 is_inside i n ps ds l params names links (Err e) scope next = scope

@@ -4,7 +4,7 @@ use Rattle.std.specs.Prelude.{filter, flat_map, if◌then◌else◌, Option, Non
 use Rattle.design_model.specs.declared.design.Range.{Range}
 use Rattle.design_model.specs.declared.design.Memory.{Memory}
 use Rattle.design_model.specs.declared.design.Signal.{Signal}
-use Rattle.flat_design.specs.Declarations.{Declaration, Sort, a_net, a_variable, words_from, an_integer, a_parameter, some_instance, faulty}
+use Rattle.flat_design.specs.Declarations.{Declaration, Sort, a_net, a_variable, words_from, an_integer, a_parameter, some_instance, faulty, faulty_memory}
 use Rattle.flat_design.specs.Instances.{Instantiation, is_memory, is_own, memory_of, signal_of, sort_words}
 use Rattle.elab_instances.specs.Linked.{Linked, linked_of}
 use Rattle.elab_instances.specs.Parts.{own_memories, own_signals}
@@ -43,6 +43,7 @@ words_sort o false an_integer r h = absurd cc
 words_sort o named a_parameter r h = absurd cc
 words_sort o named some_instance r h = absurd cc
 words_sort o named faulty r h = absurd cc
+words_sort o named faulty_memory r h = absurd cc
 
 -- the words of a memory are those of its role
 pub words_are : (l : Linked) (d : Declaration) (r : Range) → role_of l d ≡ a_memory r → sort_words d.sort ≡ r

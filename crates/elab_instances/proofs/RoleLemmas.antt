@@ -4,7 +4,7 @@ use Rattle.std.specs.Prelude.{is_some, unwrap_or}
 use Rattle.design_model.specs.Lawful.{span}
 use Rattle.verilog_tree.specs.Tree.{Module}
 use Rattle.flat_design.specs.Bodies.{Met, met_signal, met_words}
-use Rattle.flat_design.specs.Declarations.{Declaration, Sort, a_net, a_variable, words_from, an_integer, a_parameter, some_instance, faulty}
+use Rattle.flat_design.specs.Declarations.{Declaration, Sort, a_net, a_variable, words_from, an_integer, a_parameter, some_instance, faulty, faulty_memory}
 use Rattle.flat_design.specs.Instances.{Instantiation, PortAliases, alias_number, declared_entry, declared_met, is_memory, is_memory_sort, is_named_signal, is_own, is_signal_sort, named_met, other_entry, signal_entry, sort_words}
 use Rattle.elab_declarations.specs.DeclarationBounds.{AreFewWords, IsInBounds}
 use Rattle.elab_instances.specs.Linked.{Linked, linked_of}
@@ -28,6 +28,7 @@ own_sort as' m x an_integer = by (is_named_signal m x)
 own_sort as' m x a_parameter = refl
 own_sort as' m x some_instance = refl
 own_sort as' m x faulty = refl
+own_sort as' m x faulty_memory = refl
 
 -- which declared names are signals of an instance's own
 pub own_role : (i : Instantiation) (d : Declaration) → is_own_role (role_of (linked_of i) d) ≡ is_own i.aliases i.of_module d
@@ -46,6 +47,7 @@ memory_sort o false an_integer = refl
 memory_sort o named a_parameter = refl
 memory_sort o named some_instance = refl
 memory_sort o named faulty = refl
+memory_sort o named faulty_memory = refl
 
 -- which are memories
 pub memory_role : (l : Linked) (d : Declaration) → is_memory_role (role_of l d) ≡ is_memory d
@@ -68,6 +70,7 @@ entry_sort as' m s k d an_integer = by (is_named_signal m d.name.name)
 entry_sort as' m s k d a_parameter = refl
 entry_sort as' m s k d some_instance = refl
 entry_sort as' m s k d faulty = refl
+entry_sort as' m s k d faulty_memory = refl
 
 -- what a declared name stands for
 pub entry_by_role : (i : Instantiation) (s k : ℕ) (d : Declaration) → role_entry (role_of (linked_of i) d) s k d ≡ declared_entry i.aliases i.of_module s k d
@@ -90,6 +93,7 @@ met_sort i d an_integer = by (is_named_signal i.of_module d.name.name)
 met_sort i d a_parameter = refl
 met_sort i d some_instance = refl
 met_sort i d faulty = refl
+met_sort i d faulty_memory = refl
 
 -- what is met at a declared name
 pub met_by_role : (i : Instantiation) (d : Declaration) → role_met (role_of (linked_of i) d) i d ≡ declared_met i d
@@ -108,6 +112,7 @@ few_sort o false an_integer h = tt
 few_sort o named a_parameter h = tt
 few_sort o named some_instance h = tt
 few_sort o named faulty h = tt
+few_sort o named faulty_memory h = tt
 
 -- a memory has few words
 pub few_words : (l : Linked) (d : Declaration) → IsInBounds d → IsFewWords (role_of l d)

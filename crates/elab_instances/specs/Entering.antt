@@ -1,6 +1,6 @@
 -- How the scope of an instance is built, and which numbers come next.
 use Rattle.std.specs.Prelude.{◌≡◌, ℕ, ◌+◌, ◌≤◌, List, [], ◌∷◌, length, filter}
-use Rattle.flat_design.specs.Declarations.{Declaration}
+use Rattle.flat_design.specs.Declarations.{Declaration, names_parameter}
 use Rattle.flat_design.specs.Instances.{Instantiation, declared, is_memory, is_own, scope_of}
 use Rattle.flat_design.specs.Numbering.{one_if}
 use Rattle.flat_design.specs.Scope.{Bindings, binding_of}
@@ -18,6 +18,10 @@ numbers_behind r n = record { signal = n.signal + one_if (is_own_role r); memory
 abbrev pub role_entries : Linked → Numbers → List Declaration → Bindings
 role_entries l n [] = []
 role_entries l n (d ∷ ds) = (d.name.name, role_entry (role_of l d) n.signal n.memory d) ∷ role_entries l (numbers_behind (role_of l d) n) ds
+
+-- the parameters that these names say to be parameters
+abbrev pub own_bindings : List Declaration → Bindings → Bindings
+own_bindings ds bs = filter (λ c. names_parameter ds c.0) bs
 
 -- the numbers after these names
 abbrev pub numbers_past : Linked → Numbers → List Declaration → Numbers

@@ -1,7 +1,7 @@
 //! What each declared name of an instance means.
 
 ghost use Rattle.std.specs.Prelude.{◌≡◌, ◌≤◌, [], ◌∷◌, All, IfOk, OnOk};
-ghost use Rattle.elab_declarations.specs.Constants.{bindings_view};
+ghost use Rattle.elab_declarations.specs.Constants.{bindings_view, bound_view};
 ghost use Rattle.elab_declarations.specs.DeclarationBounds.{IsInBounds};
 ghost use Rattle.elab_declarations.specs.DeclarationView.{declaration_view, declarations_view};
 ghost use Rattle.elab_instances.specs.Behind.{or_bound};
@@ -29,7 +29,8 @@ pub struct Inside {
     pub next: Numbers,
 }
 
-/// The scope of an instance whose first signal and memory have these numbers. Its parameters go before all else.
+/// The scope of an instance whose first signal and memory have these numbers. Of two declarations of a name the first
+/// counts.
 pub(crate) fn enter(
     alloc: Global,
     links: &Links,
@@ -40,11 +41,11 @@ pub(crate) fn enter(
     requires constants { All (λ p. IsEntry p.entry) constants.now.found.items }
     requires within { All IsInBounds declared.now }
     requires few { spec.AreFew (spec.numbers_past (links_view links.now) first declared.now) }
-    ensures scope { IfOk result (λ inside. binding_of inside.scope ≡ or_bound (or_bound no_names (bindings_view constants.now.found.items)) (spec.role_entries (links_view links.now) first declared.now)) }
+    ensures scope { IfOk result (λ inside. binding_of inside.scope ≡ or_bound (or_bound no_names (spec.own_bindings declared.now (bindings_view constants.now.found.items))) (spec.role_entries (links_view links.now) first declared.now)) }
     ensures next { IfOk result (λ inside. inside.next ≡ spec.numbers_past (links_view links.now) first declared.now) }
 {
     let mut scope = Scope::new(alloc);
-    bind_constants(&mut scope, &constants.found)?;
+    bind_constants(&mut scope, declared, &constants.found)?;
     let next = bind_declared(&mut scope, links, declared.as_slice(), first)?;
     Ok(Inside { scope, next })
 }
@@ -59,14 +60,33 @@ impl Inside {
 }
 
 /// Gives parameters their values as their meanings.
-fn bind_constants(scope: &mut Scope, constants: &[BoundParam]) -> Result<(), NoMemory>
+fn bind_constants(
+    scope: &mut Scope,
+    declared: &Declarations,
+    constants: &[BoundParam],
+) -> Result<(), NoMemory>
     requires { All (λ p. IsEntry p.entry) constants.now }
-    ensures { OnOk result (binding_of scope.new ≡ or_bound (binding_of scope.old) (bindings_view constants.now)) }
+    ensures { OnOk result (binding_of scope.new ≡ or_bound (binding_of scope.old) (spec.own_bindings declared.now (bindings_view constants.now))) }
 {
     for constant in constants {
-        bind(scope, &constant.name, constant.entry)?;
+        bind_constant(scope, declared, constant)?;
     }
     Ok(())
+}
+
+/// Gives a parameter its value as its meaning, unless its name is declared before as something else.
+fn bind_constant(
+    scope: &mut Scope,
+    declared: &Declarations,
+    constant: &BoundParam,
+) -> Result<(), NoMemory>
+    requires { IsEntry constant.now.entry }
+    ensures { OnOk result (binding_of scope.new ≡ or_bound (binding_of scope.old) (spec.own_bindings declared.now (bound_view constant.now ∷ []))) }
+{
+    if !declared.is_parameter(&constant.name) {
+        return Ok(());
+    }
+    bind(scope, &constant.name, constant.entry)
 }
 
 /// Gives declared names their meanings, and gives the numbers that follow.

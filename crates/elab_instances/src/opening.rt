@@ -69,7 +69,7 @@ pub fn open_instance<'b, 'a>(
 }
 
 impl<'b, 'a> Opened<'b, 'a> {
-    /// The scope of the instance, whose first signal and memory have these numbers: its parameters go before all else.
+    /// The scope of the instance, whose first signal and memory have these numbers.
     pub fn enter(&self, alloc: Global, first: Numbers) -> Result<Inside, NoMemory>
         requires { AreFew (numbers_after (instantiation_view self.now.given.now) first) }
         ensures { IfOk result (IsInside (instantiation_view self.now.given.now) first) }

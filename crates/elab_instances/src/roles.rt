@@ -70,7 +70,7 @@ impl<'a> Links<'a> {
             Sort::Memory(words) => Role::Memory(words),
             Sort::Integer => self.integer(name),
             Sort::Instance => Role::Instance,
-            Sort::Parameter | Sort::Faulty => Role::Faulty,
+            Sort::Parameter | Sort::Faulty | Sort::FaultyMemory => Role::Faulty,
         }
     }
 

@@ -146,7 +146,7 @@ fn check_outputs<'a>(
 }
 
 /// Reports the faults of the expression that a port is joined to, and says whether it has no fault.
-fn check_value<'a>(scope: &Scope, port: &JoinedPort<'a>, tally: &mut Tally<'a>) -> bool
+pub(crate) fn check_value<'a>(scope: &Scope, port: &JoinedPort<'a>, tally: &mut Tally<'a>) -> bool
     ensures met { tally.new ≡ after_faults tally.old (spec.joined_faults (binding_of scope.now) (name_view port.now.label) (declaration_view port.now.port) (expr_view port.now.value.now)) }
     ensures sound { result ≡ none (spec.joined_faults (binding_of scope.now) (name_view port.now.label) (declaration_view port.now.port) (expr_view port.now.value.now)) }
 {

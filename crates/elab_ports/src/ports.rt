@@ -29,7 +29,7 @@ pub struct JoinedPort<'a> {
 }
 
 /// The connections by their ports, of two of one port the first.
-fn first_connections<'a>(
+pub(crate) fn first_connections<'a>(
     alloc: Global,
     connections: &[Connection<'a>],
 ) -> Result<NameMap<Connection<'a>>, NoMemory>
@@ -43,7 +43,7 @@ fn first_connections<'a>(
 }
 
 /// Whether a declaration is that of a port that is a signal, and has no fault.
-fn is_sound_port(port: &Declaration) -> bool
+pub(crate) fn is_sound_port(port: &Declaration) -> bool
     ensures { result ≡ spec.is_sound_port (declaration_view port.now) }
 {
     port.direction.is_some() && matches!(port.sort, Sort::Net | Sort::Variable)

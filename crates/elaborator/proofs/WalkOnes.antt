@@ -7,7 +7,7 @@ use Rattle.verilog_tree.specs.Tree.{Given, InstanceItem, Module, One}
 use Rattle.verilog_tree.specs.View.{one_view, ones_view}
 use Rattle.verilog_tree.specs.declared.item.One.{One as CodeOne}
 use Rattle.flat_design.specs.Bodies.{met_faults}
-use Rattle.flat_design.specs.Connections.{JoinedPort, given_faults, joined_ports, port_faults}
+use Rattle.flat_design.specs.Connections.{JoinedPort, connections_faults, joined_ports}
 use Rattle.flat_design.specs.Declarations.{Override}
 use Rattle.flat_design.specs.Fault.{Fault}
 use Rattle.flat_design.specs.Flat.{all_instances, instance, instances_of, instantiation, is_declared_here, module_of, one_instance, replaced}
@@ -67,7 +67,7 @@ one_still {base = base} w numbers ms depth given g p x m os o away before b st i
 -- one that is
 pub one_goes : {base : ℕ} {w later : Walk} {numbers : Numbers} (ms : List Module) (depth : ℕ) (given : Instantiation) (g : Scope) (p : Place) (x : InstanceItem) (m : Module) (os : List Override) (o : One) (inner : Instantiation) (js : List JoinedPort) (fs : List Fault) →
     ((b i : ℕ) → is_declared_here (around_here b given i g) o.name ≡ true) →
-    js ≡ joined_ports os m x.of_module o.given → fs ≡ given_faults x.of_module m.ports o.given ++ flat_map (port_faults g) (joined_ports os m x.of_module o.given) →
+    js ≡ joined_ports os m x.of_module o.given → fs ≡ connections_faults g os m x.of_module o.given →
     ((b i : ℕ) → inner ≡ instantiation (around_here b given i g) p m os o js) →
     GoesBy base w numbers later numbers (λ b i l n st. replaced (instance b ms depth) b (around_here b given i g) p inner js (meet (met_faults fs) st)) 0 0 →
     OneGoes base ms depth given g p x m os o numbers w later

@@ -19,7 +19,7 @@ use crate::naming::{InstanceItem, InstancesOf};
 use cov_host::{Name, NoMemory, Place};
 use elab_declarations::{Declarations, Override, check_constants, check_declarations};
 use elab_instances::{Instantiation, PortAlias};
-use elab_ports::{Joined, JoinedPort, check_given, join_all, joined_ports};
+use elab_ports::{Joined, JoinedPort, check_faulty_ports, check_given, join_all, joined_ports};
 use elab_scope::{NameAt, Scope, Tally};
 use std::alloc::Global;
 use verilog_tree::{Given, Module, Named, One};
@@ -85,7 +85,7 @@ pub(crate) fn check_ports<'a>(
 ) -> Result<Ports<'a>, NoMemory>
     ensures ports { IfOk result (λ found. ports_view found.ports.items ≡ spec.joined_ports (overrides_view of.now.overrides.items) (module_view of.now.module.now) item.entry.module.now (givens_view given.now)) }
     ensures how { IfOk result (λ found. map joined_view found.joined.items ≡ map (λ j. spec.joining (binding_of scope.now) j.port j.label j.value) (ports_view found.ports.items)) }
-    ensures met { OnOk result (tally.new ≡ after_faults tally.old (spec.given_faults item.entry.module.now (module_view of.now.module.now).ports (givens_view given.now) ++ flat_map (spec.port_faults (binding_of scope.now)) (spec.joined_ports (overrides_view of.now.overrides.items) (module_view of.now.module.now) item.entry.module.now (givens_view given.now)))) }
+    ensures met { OnOk result (tally.new ≡ after_faults tally.old (spec.connections_faults (binding_of scope.now) (overrides_view of.now.overrides.items) (module_view of.now.module.now) item.entry.module.now (givens_view given.now))) }
 {
     let label = NameAt::of(item.module);
     let names = port_names(alloc, of.module)?;
@@ -93,6 +93,7 @@ pub(crate) fn check_ports<'a>(
     let declared = declared_names(alloc, &of.overrides, of.module)?;
     let ports = joined_ports(alloc, &declared, of.module, &connections)?;
     let joined = join_all(alloc, scope, &ports, tally)?;
+    check_faulty_ports(alloc, scope, &declared, of.module, &connections, tally)?;
     Ok(Ports { ports, joined })
 }
 

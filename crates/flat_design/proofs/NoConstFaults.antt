@@ -138,9 +138,8 @@ constant_not_faulty g e a = constants_sound g (identifiers e) a
 pub constant_clean : (g : Scope) (e : Expr) (fs : List Fault) → none (constant_faults g e fs) ≡ true → names_faulty g e ≡ false → (names_constants g e ≡ true) × (none fs ≡ true)
 constant_clean g e fs a b =
     let wrong = fault_if (names_no_constant g e) (of_constant NotConstant (place_of e)) in
-    let p = three_none (undeclared g e) wrong (if names_constants g e then fs else []) a in
-    let con = constants_if g (identifiers e) p.0 (not_if _ _ p.1) b in
-    (con, none_then (names_constants g e) fs [] con p.2)
+    let p = three_none (undeclared g e) wrong fs a in
+    (constants_if g (identifiers e) p.0 (not_if _ _ p.1) b, p.2)
 
 -- and that must be a number
 pub number_clean : (g : Scope) (e : Expr) (fs : List Fault) → none (number_faults g e fs) ≡ true → names_faulty g e ≡ false →

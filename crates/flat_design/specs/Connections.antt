@@ -1,5 +1,5 @@
 -- Connections of ports and overrides of parameters, and how a port is joined (clauses 12.2 and 12.3).
-use Rattle.std.specs.Prelude.{ℕ, nat_lt, Bool, false, not, ◌&&◌, ◌||◌, if◌then◌else◌, List, [], ◌∷◌, ◌++◌, length, map, flat_map, filter, bytes_eq, is_none, is_some, Option, Some, None}
+use Rattle.std.specs.Prelude.{ℕ, nat_lt, Bool, true, false, not, ◌&&◌, ◌||◌, if◌then◌else◌, List, [], ◌∷◌, ◌++◌, length, map, flat_map, filter, bytes_eq, is_none, is_some, Option, Some, None}
 use Rattle.std.specs.Prelude as std
 use Rattle.std.specs.List.{list_any}
 use Rattle.design_model.specs.Shape.{same_bool}
@@ -175,3 +175,32 @@ unless_joined _ fs = []
 -- what is wrong with a connection that joins nothing
 abbrev pub port_faults : Scope → JoinedPort → List Fault
 port_faults g j = unless_joined (joining g j.port j.label j.value) (joined_faults g j.label j.port j.value)
+
+-- no declared port, or one whose declaration has a fault
+abbrev pub is_faulty_port : Option Declaration → Bool
+is_faulty_port None = true
+is_faulty_port (Some d) = not (is_sound_port d)
+
+-- the faults of an expression that is joined to a faulty port; without a direction, those that it has as a value
+abbrev pub value_faults : Scope → Option Declaration → Named → Expr → List Fault
+value_faults g None label e = faults g e
+value_faults g (Some d) label e = if is_some d.direction then joined_faults g label d e else faults g e
+
+-- the same, unless the connection is empty
+abbrev pub option_faults : Scope → Option Declaration → Named → Option Expr → List Fault
+option_faults g d label None = []
+option_faults g d label (Some e) = value_faults g d label e
+
+-- what is wrong with the connection of a port, where the port is faulty
+abbrev pub faulty_faults : Scope → Option Declaration → Option Connection → List Fault
+faulty_faults g d None = []
+faulty_faults g d (Some c) = if is_faulty_port d then option_faults g d c.label c.value else []
+
+-- the same of the port x
+abbrev pub faulty_port_faults : Scope → List Declaration → List Connection → Named → List Fault
+faulty_port_faults g ds cs x = faulty_faults g (declaration_of ds x.name) (connection_of cs x.name)
+
+-- the faults of all connections of an instance
+abbrev pub connections_faults : Scope → List Override → Module → Named → List Given → List Fault
+connections_faults g os m label cs =
+    given_faults label m.ports cs ++ flat_map (port_faults g) (joined_ports os m label cs) ++ flat_map (faulty_port_faults g (declared os m) (connections label m.ports cs)) m.ports

@@ -103,7 +103,8 @@ pub data Sort : Type 0 where
   an_integer : Sort
   a_parameter : Sort
   some_instance : Sort
-  faulty : Sort
+  faulty : Sort  -- a net or variable whose range has a fault
+  faulty_memory : Sort  -- a memory of which a range has a fault
 
 -- a declared name, with the place of its item
 pub record Declaration : Type 0 where
@@ -119,9 +120,19 @@ pub record Declaration : Type 0 where
 abbrev pub declaration : Place → Sort → Option Range → Bool → Option Bool → Named → Declaration
 declaration p sort r signed direction x = record { name = x; item = p; sort = sort; range = r; signed = signed; direction = direction; twice = false }
 
+-- of the sort of a memory, also where a range has a fault
+abbrev pub is_any_memory : Sort → Bool
+is_any_memory (words_from r) = true
+is_any_memory faulty_memory = true
+is_any_memory _ = false
+
+-- the sort where a range has a fault
+abbrev pub faulty_sort : Sort → Sort
+faulty_sort sort = if is_any_memory sort then faulty_memory else faulty
+
 -- the sort, if the ranges have no fault
 abbrev pub sort_if : Bool → Sort → Sort
-sort_if sound sort = if sound then sort else faulty
+sort_if sound sort = if sound then sort else faulty_sort sort
 
 -- a memory where the name has a range of words, else the item's sort
 abbrev pub words_sort : Scope → Place → Option RangeExpr → Sort → Sort
@@ -172,27 +183,48 @@ abbrev pub is_variable : Sort → Bool
 is_variable a_variable = true
 is_variable _ = false
 
+-- declared as a parameter
+abbrev pub is_parameter : Sort → Bool
+is_parameter a_parameter = true
+is_parameter _ = false
+
 -- its declaration has a fault
 abbrev pub is_faulty : Sort → Bool
 is_faulty faulty = true
+is_faulty faulty_memory = true
 is_faulty _ = false
+
+-- a net or variable, also one whose range has a fault
+abbrev pub is_vector : Sort → Bool
+is_vector a_net = true
+is_vector a_variable = true
+is_vector faulty = true
+is_vector _ = false
 
 -- declared as a port
 abbrev pub has_direction : Declaration → Bool
 has_direction d = is_some d.direction
 
+-- equal ranges, or one that has a fault
+abbrev pub fits_range : Declaration → Declaration → Bool
+fits_range c d = is_faulty c.sort || is_faulty d.sort || same_range c.range d.range
+
 -- a port is declared once more by wire or reg, of equal sign and range
 abbrev pub completes : Declaration → Declaration → Bool
 completes c d =
-    not c.twice && not (same_bool (has_direction c) (has_direction d)) && (is_net c.sort || is_variable c.sort) && (is_net d.sort || is_variable d.sort) && same_range c.range d.range && same_bool c.signed d.signed
+    not c.twice && not (same_bool (has_direction c) (has_direction d)) && is_vector c.sort && is_vector d.sort && fits_range c d && same_bool c.signed d.signed
 
--- the two declarations of one port in one; a variable where one of them says so
+-- the sort of both: faulty where one of them is, else a variable where one of them says so
+abbrev pub completed_sort : Sort → Sort → Sort
+completed_sort s t = if is_faulty s || is_faulty t then faulty else (if is_variable s || is_variable t then a_variable else a_net)
+
+-- the two declarations of one port in one
 abbrev pub completed : Declaration → Declaration → Declaration
 completed c d =
     record {
       name = c.name;
       item = c.item;
-      sort = (if is_variable c.sort || is_variable d.sort then a_variable else a_net);
+      sort = completed_sort c.sort d.sort;
       range = c.range;
       signed = c.signed;
       direction = (if is_some c.direction then c.direction else d.direction);
@@ -215,7 +247,7 @@ declarations g m = declarations_from [] (all_declarations g m)
 
 -- a name that is declared again, other than as a port's net or variable
 abbrev pub is_declared_again : List Declaration → Declaration → Bool
-is_declared_again sofar d = list_any (λ c. bytes_eq c.name.name d.name.name && not (completes c d || is_faulty c.sort || is_faulty d.sort)) sofar
+is_declared_again sofar d = list_any (λ c. bytes_eq c.name.name d.name.name && not (completes c d)) sofar
 
 -- the names declared again, in order of text
 abbrev pub twice_faults : List Declaration → List Declaration → List Fault
@@ -227,9 +259,13 @@ abbrev pub listed_twice : List Named → List Named → List Fault
 listed_twice sofar [] = []
 listed_twice sofar (x ∷ xs) = fault_if (is_among sofar x.name) (fault_at TwiceDeclared x) ++ listed_twice (x ∷ sofar) xs
 
--- a listed port without direction
+-- a name with a direction
 abbrev pub is_port : List Declaration → List ℕ → Bool
-is_port ds x = list_any (λ d. bytes_eq d.name.name x && (has_direction d || is_faulty d.sort)) ds
+is_port ds x = list_any (λ d. bytes_eq d.name.name x && has_direction d) ds
+
+-- the name is declared as a parameter; of two declarations the first counts
+abbrev pub names_parameter : List Declaration → List ℕ → Bool
+names_parameter ds x = list_any (λ d. bytes_eq d.name.name x && is_parameter d.sort) ds
 
 -- the listed ports without direction
 abbrev pub direction_faults : List Declaration → List Named → List Fault

@@ -101,8 +101,7 @@ names_no_constant g e = list_any (λ x. is_no_constant (look_up g x.name)) (iden
 
 -- an expression that must be constant; the list has its faults as an expression
 abbrev pub constant_faults : Scope → Expr → List Fault → List Fault
-constant_faults g e faults =
-    undeclared g e ++ fault_if (names_no_constant g e) (of_constant NotConstant (place_of e)) ++ (if names_constants g e then faults else [])
+constant_faults g e faults = undeclared g e ++ fault_if (names_no_constant g e) (of_constant NotConstant (place_of e)) ++ faults
 
 -- a constant without a fault
 abbrev pub is_sound_constant : Scope → Expr → List Fault → Bool

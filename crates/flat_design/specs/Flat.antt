@@ -7,7 +7,7 @@ use Rattle.verilog_tree.specs.declared.item.Named.{Named}
 use Rattle.verilog_tree.specs.Tree.{Expr, identifier, One, InstanceItem, Declared, ItemForm, net_item, continuous_item, always_item, instance_item, Item, Module}
 use Rattle.flat_design.specs.declared.fault.DesignLimit.TheVariants.{Instances}
 use Rattle.flat_design.specs.Bodies.{met_fault, met_faults}
-use Rattle.flat_design.specs.Connections.{Joined, by_assignment, joining, JoinedPort, joined_ports, port_alias, port_faults, given_faults, overrides, override_faults, are_sound_overrides}
+use Rattle.flat_design.specs.Connections.{Joined, by_assignment, joining, JoinedPort, joined_ports, port_alias, connections_faults, overrides, override_faults, are_sound_overrides}
 use Rattle.flat_design.specs.Declarations.{Override}
 use Rattle.flat_design.specs.Fault.{fault_at, limit_fault, missing_top, NoModule, Recursion}
 use Rattle.flat_design.specs.Instances.{Instantiation, Sofar, meet, add_process, opened, Context, context, declared, dotted, is_input}
@@ -64,7 +64,7 @@ is_declared_here c x = list_any (λ d. bytes_eq d.name.name x.name && is_same_pl
 abbrev pub one_instance : (Instantiation → Sofar → Sofar) → ℕ → Context → Place → InstanceItem → Module → List Override → One → Sofar → Sofar
 one_instance child base c p i m os o st =
     let js : List JoinedPort = joined_ports os m i.of_module o.given in
-    if is_declared_here c o.name then replaced child base c p (instantiation c p m os o js) js (meet (met_faults (given_faults i.of_module m.ports o.given ++ flat_map (port_faults c.scope) js)) st) else st
+    if is_declared_here c o.name then replaced child base c p (instantiation c p m os o js) js (meet (met_faults (connections_faults c.scope os m i.of_module o.given)) st) else st
 
 -- the instances that one item names
 abbrev pub all_instances : (Instantiation → Sofar → Sofar) → ℕ → Context → Place → InstanceItem → Module → List Override → List One → Sofar → Sofar

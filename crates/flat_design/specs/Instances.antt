@@ -13,7 +13,7 @@ use Rattle.verilog_tree.specs.declared.item.Named.{Named}
 use Rattle.verilog_tree.specs.Tree.{Module}
 use Rattle.flat_design.specs.declared.fault.DesignLimit.TheVariants.{Path}
 use Rattle.flat_design.specs.Bodies.{Met, met_signal, met_words, met_instance, met_faults}
-use Rattle.flat_design.specs.Declarations.{Override, Declaration, Sort, a_net, a_variable, words_from, an_integer, some_instance, constants_from, constants_faults, declarations, all_declarations, twice_faults, listed_twice, direction_faults, item_range_faults, is_net}
+use Rattle.flat_design.specs.Declarations.{Override, Declaration, Sort, a_net, a_variable, words_from, an_integer, some_instance, constants_from, constants_faults, declarations, all_declarations, twice_faults, listed_twice, direction_faults, item_range_faults, is_net, names_parameter}
 use Rattle.flat_design.specs.Fault.{Fault, limit_fault, fault_if}
 use Rattle.flat_design.specs.Identifiers.{params_of, names_of, item_identifiers, item_loops, is_among}
 use Rattle.flat_design.specs.Numbering.{one_if}
@@ -131,9 +131,13 @@ abbrev pub entries : PortAliases → Module → ℕ → ℕ → List Declaration
 entries as' m s k [] = []
 entries as' m s k (d ∷ ds) = (d.name.name, declared_entry as' m s k d) ∷ entries as' m (s + one_if (is_own as' m d)) (k + one_if (is_memory d)) ds
 
+-- the parameters whose names the module does not declare before as something else
+abbrev pub own_constants : List Override → Module → Bindings
+own_constants os m = filter (λ c. names_parameter (declared os m) c.0) (constants os m)
+
 -- the scope of an instance whose first signal has number s and whose first memory has number k
 abbrev pub scope_of : Instantiation → ℕ → ℕ → Scope
-scope_of i s k = with_bindings (constants i.overrides i.of_module) (with_bindings (entries i.aliases i.of_module s k (declared i.overrides i.of_module)) no_names)
+scope_of i s k = with_bindings (own_constants i.overrides i.of_module) (with_bindings (entries i.aliases i.of_module s k (declared i.overrides i.of_module)) no_names)
 
 -- the signal of instance i for a declared name
 abbrev pub signal_of : ℕ → Bool → Declaration → Signal

@@ -12,7 +12,7 @@ use Rattle.elab_const.specs.declared.fault.ConstKind.TheVariants.{LoopNotConstan
 use Rattle.flat_design.specs.Expressions.{faults, undeclared, names_no_constant}
 use Rattle.flat_design.specs.Fault.{Fault, fault_at, of_constant, answer_faults, fault_if, none, Undeclared, WrongUse}
 use Rattle.flat_design.specs.Identifiers.{base_name}
-use Rattle.flat_design.specs.Scope.{Scope, Entry, a_turn, a_loop_variable, a_faulty_one, look_up, names, names_constants, names_faulty, with_turn}
+use Rattle.flat_design.specs.Scope.{Scope, Entry, a_turn, a_loop_variable, a_faulty_one, look_up, names, names_faulty, with_turn}
 
 -- a plain name
 abbrev pub is_identifier : Expr → Bool
@@ -31,9 +31,9 @@ variable_faults (Some (a_turn v)) p x = fault_at WrongUse x ∷ []
 variable_faults (Some a_faulty_one) p x = []
 variable_faults (Some _) p x = of_constant LoopNotConstant p ∷ []
 
--- an expression of a header names constants alone
+-- an expression of a header may name constants alone
 abbrev pub named_faults : Scope → Place → Expr → List Fault
-named_faults g p e = undeclared g e ++ fault_if (names_no_constant g e) (of_constant LoopNotConstant p) ++ (if names_constants g e then faults g e else [])
+named_faults g p e = undeclared g e ++ fault_if (names_no_constant g e) (of_constant LoopNotConstant p) ++ faults g e
 
 -- the scope in some turn; which value the variable has does not matter
 abbrev pub in_some_turn : Header → Scope → Scope

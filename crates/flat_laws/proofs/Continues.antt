@@ -6,7 +6,7 @@ use Rattle.std.specs.Prelude.{bytes_eq, flat_map}
 use Rattle.verilog_tree.specs.Tree.{Expr, One, InstanceItem, Declared, ItemForm, net_item, continuous_item, always_item, instance_item, Item, Module}
 use Rattle.verilog_tree.specs.declared.item.Named.{Named}
 use Rattle.flat_design.specs.Bodies.{Met, met_faults}
-use Rattle.flat_design.specs.Connections.{Joined, as_alias, by_assignment, not_joined, joining, JoinedPort, joined_ports, port_faults, given_faults, overrides, are_sound_overrides}
+use Rattle.flat_design.specs.Connections.{Joined, as_alias, by_assignment, not_joined, joining, JoinedPort, joined_ports, connections_faults, overrides, are_sound_overrides}
 use Rattle.flat_design.specs.Declarations.{Override}
 use Rattle.flat_design.specs.Flat.{join_signal, join_as, join_port, join_ports, instantiation, replaced, is_declared_here, one_instance, all_instances, instances_of, module_of, net_value, net_values, item, items, instance}
 use Rattle.flat_design.specs.Instances.{Instantiation, Sofar, meet, add_process, opened, Context, context, is_input}
@@ -130,7 +130,7 @@ join_ports_continues c p inner (j ∷ js) st = continues_twice (join_port_contin
 pub one_continues : (child : Instantiation → Sofar → Sofar) → ((i : Instantiation) (st : Sofar) → Continues st (child i st)) → (base : ℕ) (c : Context) (p : Place) (i : InstanceItem) (m : Module) (os : List Override) (o : One) (st : Sofar) → Continues st (one_instance child base c p i m os o st)
 one_continues child h base c p i m os o st =
     let js : List JoinedPort = joined_ports os m i.of_module o.given in
-    let xs : List Met = met_faults (given_faults i.of_module m.ports o.given ++ flat_map (port_faults c.scope) js) in
+    let xs : List Met = met_faults (connections_faults c.scope os m i.of_module o.given) in
     let inner : Instantiation = instantiation c p m os o js in
     continues_if (is_declared_here c o.name) st (replaced child base c p inner js (meet xs st)) st
     (continues_twice (continues_meet xs st) (continues_twice (h inner (meet xs st)) (join_ports_continues c p (context base inner (meet xs st)).scope js (child inner (meet xs st)))))

@@ -6,17 +6,16 @@ use Rattle.std.proofs.lemmas.Bool.{false≢true, and_parts}
 use Rattle.std.proofs.lemmas.List.{map-append}
 use Rattle.design_model.specs.Design.{In, AreDistinct}
 use Rattle.verilog_tree.specs.Tree.{Param, ItemForm, initial_item, port_item, net_item, variable_item, integer_item, parameter_item, continuous_item, always_item, instance_item, Item, Module}
-use Rattle.flat_design.specs.Declarations.{Declaration, Override, Sort, a_net, a_variable, a_parameter, declaration, item_declarations, all_declarations, is_net, is_variable, is_faulty, completes, completed, add_declaration, declarations_from, is_declared_again, twice_faults, param_entry, with_param, constants_from}
+use Rattle.flat_design.specs.Declarations.{Declaration, Override, Sort, a_net, a_variable, a_parameter, declaration, item_declarations, all_declarations, is_vector, completes, completed, add_declaration, declarations_from, is_declared_again, twice_faults, param_entry, with_param, constants_from}
 use Rattle.flat_design.specs.Identifiers.{params_of, item_params}
 use Rattle.flat_design.specs.Instances.{constants, constant_scope, declaration_faults, declared, other_names}
 use Rattle.flat_design.specs.Scope.{Scope, Bindings, binding_of, with_bindings}
 use Rattle.flat_design.specs.declared.entry.Entry.{Entry}
 use Rattle.flat_laws.proofs.Distinct.{AreApart, distinct_join}
-use Rattle.flat_laws.proofs.Freedom.{both_empty, neither, not_told}
-use Rattle.flat_laws.proofs.LawfulDeclared.{added_all}
+use Rattle.flat_laws.proofs.Freedom.{both_empty, not_told}
 use Rattle.flat_laws.proofs.LawfulNames.{in_map_back}
 use Rattle.flat_laws.proofs.LawfulScope.{bytes_same, same_bytes}
-use Rattle.flat_laws.proofs.LawfulSound.{constant_scope_sound, declarations_fine, no_declaration_faults}
+use Rattle.flat_laws.proofs.LawfulSound.{no_declaration_faults, none_passes}
 use Rattle.flat_laws.proofs.Members.{in_append, in_left, in_right, in_flat_map, in_flat_map_back}
 
 -- the name of a declaration
@@ -68,23 +67,11 @@ declared_distinct os m = from_distinct [] (all_declarations (constant_scope os m
 
 -- neither a net nor a variable, so that nothing completes it
 abbrev pub is_plain : Sort → Bool
-is_plain s = not (is_net s || is_variable s)
+is_plain s = not (is_vector s)
 
--- none of the declarations is faulty
-pub record AreSound (ds : List Declaration) : Type 0 where
-  pub sound : (d : Declaration) → In d ds → is_faulty d.sort ≡ false
-
-completed_sound : (b : Bool) → is_faulty (if b then a_variable else a_net) ≡ false
-completed_sound true = refl
-completed_sound false = refl
-
-pub added_sound : (cs : List Declaration) (d : Declaration) → AreSound cs → is_faulty d.sort ≡ false → AreSound (add_declaration cs d)
-added_sound cs d h here = record { sound = λ x k. added_all (λ y. is_faulty y.sort ≡ false) (λ c e l m. completed_sound (is_variable c.sort || is_variable e.sort)) cs d h.sound here x k }
-
-not_net : (a b : Bool) → not (a || b) ≡ true → (a || b) ≡ false
-not_net true b h = absurd (false≢true h)
-not_net false true h = absurd (false≢true h)
-not_net false false h = refl
+not_true : (b : Bool) → not b ≡ true → b ≡ false
+not_true true h = absurd (false≢true h)
+not_true false h = refl
 
 -- what is neither net nor variable completes nothing, and nothing completes it
 plain_first : (c d : Declaration) → is_plain c.sort ≡ true → completes c d ≡ true → ⊥
@@ -93,33 +80,24 @@ plain_first c d plain h =
     let q = and_parts _ _ p.0 in
     let r = and_parts _ _ q.0 in
     let s = and_parts _ _ r.0 in
-    false≢true (sym (not_net (is_net c.sort) (is_variable c.sort) plain) ∙ s.1)
+    false≢true (sym (not_true (is_vector c.sort) plain) ∙ s.1)
 
 plain_second : (c d : Declaration) → is_plain d.sort ≡ true → completes c d ≡ true → ⊥
 plain_second c d plain h =
     let p = and_parts _ _ h in
     let q = and_parts _ _ p.0 in
     let r = and_parts _ _ q.0 in
-    false≢true (sym (not_net (is_net d.sort) (is_variable d.sort) plain) ∙ r.1)
-
--- a test that none passes
-none_passes : {A : Type 0} (p : A → Bool) (xs : List A) (x : A) → list_any p xs ≡ false → In x xs → p x ≡ false
-none_passes p [] x h k = absurd k
-none_passes p (y ∷ ys) x h (inl e) = subst (λ z. p z ≡ false) e (neither (p y) (list_any p ys) h).0
-none_passes p (y ∷ ys) x h (inr k) = none_passes p ys x (neither (p y) (list_any p ys) h).1 k
+    false≢true (sym (not_true (is_vector d.sort) plain) ∙ r.1)
 
 -- what is neither net nor variable is not declared again
-pub not_again : (sofar : List Declaration) (c d : Declaration) → AreSound sofar → is_faulty d.sort ≡ false → is_plain d.sort ≡ true → is_declared_again sofar d ≡ false → In c sofar → name_of c ≡ name_of d → ⊥
-not_again sofar c d sound here plain once c_in same =
-    by_test (bytes_eq c.name.name d.name.name) (completes c d) (is_faulty c.sort) (is_faulty d.sort) (bytes_same c.name.name d.name.name same) (λ h. plain_second c d plain h) (sound.sound c c_in) here
-    (none_passes (λ x. bytes_eq x.name.name d.name.name && not (completes x d || is_faulty x.sort || is_faulty d.sort)) sofar c once c_in)
+pub not_again : (sofar : List Declaration) (c d : Declaration) → is_plain d.sort ≡ true → is_declared_again sofar d ≡ false → In c sofar → name_of c ≡ name_of d → ⊥
+not_again sofar c d plain once c_in same =
+    by_test (bytes_eq c.name.name d.name.name) (completes c d) (bytes_same c.name.name d.name.name same) (λ h. plain_second c d plain h) (none_passes (λ x. bytes_eq x.name.name d.name.name && not (completes x d)) sofar c once c_in)
   where
-    by_test : (a b e f : Bool) → a ≡ true → (b ≡ true → ⊥) → e ≡ false → f ≡ false → (a && not (b || e || f)) ≡ false → ⊥
-    by_test true true e f h k l m n = k refl
-    by_test true false true f h k l m n = false≢true (sym l)
-    by_test true false false true h k l m n = false≢true (sym m)
-    by_test true false false false h k l m n = false≢true (sym n)
-    by_test false b e f h k l m n = false≢true h
+    by_test : (a b : Bool) → a ≡ true → (b ≡ true → ⊥) → (a && not b) ≡ false → ⊥
+    by_test true true h k n = k refl
+    by_test true false h k n = false≢true (sym n)
+    by_test false b h k n = false≢true h
 
 -- a declaration that nothing completes stays
 stays_in : (cs : List Declaration) (e d : Declaration) → is_plain d.sort ≡ true → In d cs → In d (add_declaration cs e)
@@ -145,25 +123,22 @@ added_in (c ∷ cs) d new = by_name (added_in cs d (λ x h. new x (inr h))) (byt
     by_name rest true is = absurd (new c (inl refl) (same_bytes c.name.name d.name.name is))
     by_name rest false is = inr rest
 
-from_in : (sofar ds : List Declaration) → twice_faults sofar ds ≡ [] → AreSound sofar → AreSound ds → (d : Declaration) → is_plain d.sort ≡ true → In d sofar ⊎ In d ds → In d (declarations_from sofar ds)
-from_in sofar [] once sound all d plain (inl h) = h
-from_in sofar [] once sound all d plain (inr h) = absurd h
-from_in sofar (e ∷ ds) once sound all d plain h =
+from_in : (sofar ds : List Declaration) → twice_faults sofar ds ≡ [] → (d : Declaration) → is_plain d.sort ≡ true → In d sofar ⊎ In d ds → In d (declarations_from sofar ds)
+from_in sofar [] once d plain (inl h) = h
+from_in sofar [] once d plain (inr h) = absurd h
+from_in sofar (e ∷ ds) once d plain h =
     let p = both_empty _ (twice_faults (add_declaration sofar e) ds) once in
-    from_in (add_declaration sofar e) ds p.1 (added_sound sofar e sound (all.sound e (inl refl))) (record { sound = λ x k. all.sound x (inr k) }) d plain (by_place (not_told (is_declared_again sofar e) _ p.0) h)
+    from_in (add_declaration sofar e) ds p.1 d plain (by_place (not_told (is_declared_again sofar e) _ p.0) h)
   where
     by_place : is_declared_again sofar e ≡ false → In d sofar ⊎ In d (e ∷ ds) → In d (add_declaration sofar e) ⊎ In d ds
     by_place new (inl k) = inl (stays_in sofar e d plain k)
     by_place new (inr (inl same)) =
-        inl (subst (λ z. In z (add_declaration sofar e)) same (added_in sofar e (λ c c_in named. not_again sofar c e sound (all.sound e (inl refl)) (subst (λ z. is_plain z.sort ≡ true) (sym same) plain) new c_in named)))
+        inl (subst (λ z. In z (add_declaration sofar e)) same (added_in sofar e (λ c c_in named. not_again sofar c e (subst (λ z. is_plain z.sort ≡ true) (sym same) plain) new c_in named)))
     by_place new (inr (inr k)) = inr k
-
-pub all_sound : (os : List Override) (m : Module) → declaration_faults os m ≡ [] → AreSound (all_declarations (constant_scope os m) m)
-all_sound os m e = record { sound = λ d k. (declarations_fine m (constant_scope os m) (constant_scope_sound os m e) (no_declaration_faults os m e).ranges d k).sound }
 
 -- a declaration that nothing completes is one of the declared names
 pub plain_declared : (os : List Override) (m : Module) → declaration_faults os m ≡ [] → (d : Declaration) → is_plain d.sort ≡ true → In d (all_declarations (constant_scope os m) m) → In d (declared os m)
-plain_declared os m e d plain h = from_in [] (all_declarations (constant_scope os m) m) (no_declaration_faults os m e).twice (record { sound = λ x k. absurd k }) (all_sound os m e) d plain (inr h)
+plain_declared os m e d plain h = from_in [] (all_declarations (constant_scope os m) m) (no_declaration_faults os m e).twice d plain (inr h)
 
 -- a parameter is declared as one
 pub record IsParameter (os : List Override) (m : Module) (x : List ℕ) : Type 0 where

@@ -25,7 +25,7 @@ use Rattle.elab_const.proofs.AnswerLemmas.{none_in_turn, width_within}
 use Rattle.elab_const.proofs.ContextLemmas.{length-fit}
 use Rattle.flat_design.specs.Bodies.{in_turn}
 use Rattle.flat_design.specs.Connections.{Connection, connection, connections, free_names, override_of, override_value_faults, override_faults, overrides, are_sound_overrides, given_faults}
-use Rattle.flat_design.specs.Declarations.{Declaration, Override, Sort, a_net, a_variable, words_from, an_integer, a_parameter, some_instance, faulty, is_faulty, is_sound_vector, override_or, overridden, param_entry, param_faults, range_value, ranged_value, typed_value, vector_faults, with_param, constants_from}
+use Rattle.flat_design.specs.Declarations.{Declaration, Override, Sort, a_net, a_variable, words_from, an_integer, a_parameter, some_instance, faulty, faulty_memory, is_faulty, is_sound_vector, names_parameter, override_or, overridden, param_entry, param_faults, range_value, ranged_value, typed_value, vector_faults, with_param, constants_from}
 use Rattle.flat_design.specs.Expressions.{constant_faults, faults}
 use Rattle.flat_design.specs.Fault.{none}
 use Rattle.flat_design.specs.Identifiers.{base_name, is_among, names_of, params_of}
@@ -40,6 +40,7 @@ use Rattle.flat_laws.proofs.LawfulDeclared.{declared_has_range, is_empty, sound_
 use Rattle.flat_laws.proofs.LawfulEvents.{each_empty}
 use Rattle.flat_laws.proofs.LawfulLists.{signal_sort_sound}
 use Rattle.flat_laws.proofs.LawfulPaths.{found_in}
+use Rattle.flat_laws.proofs.LawfulScope.{binding_kept}
 use Rattle.flat_laws.proofs.LawfulSound.{IsSoundScope, entries_all, names_sound}
 use Rattle.flat_laws.proofs.TakenOperands.{IsTaken, taken}
 use Rattle.flat_laws.proofs.Members.{in_left, in_right, in_flat_map, in_flat_map_back}
@@ -259,6 +260,7 @@ entry_width os aliases m s k d d_in = by_signal (is_signal m d) refl
     by_sort a_parameter is = tt
     by_sort some_instance is = tt
     by_sort faulty is = tt
+    by_sort faulty_memory is = tt
 
     by_signal : (b : Bool) → is_signal m d ≡ b → EntryWidth (Some (if b then signal_entry (unwrap_or (alias_number aliases d.name.name) s) d else other_entry k d d.sort))
     by_signal true is = declared_width os m d d_in (signal_sort_sound m d.name.name d.sort is)
@@ -266,7 +268,7 @@ entry_width os aliases m s k d d_in = by_signal (is_signal m d) refl
 
 -- the names of an instance
 pub scope_widths : (i : Instantiation) (s k : ℕ) → AreOverrides i.overrides → ((p : Param) → In p (params_of i.of_module) → AreFit (literals p.value)) → HasWidths (scope_of i s k)
-scope_widths i s k given fit = record { widths = λ x. either x (binding_of (constants i.overrides m) x) (of_constants.widths x) }
+scope_widths i s k given fit = record { widths = λ x. subst (λ o. EntryWidth (entry_or o (entry_or (binding_of (entries i.aliases m s k ds) x) None))) (sym (binding_kept (names_parameter ds) (constants i.overrides m) x)) (by_test x (names_parameter ds x)) }
   where
     m : Module
     m = i.of_module
@@ -278,9 +280,19 @@ scope_widths i s k given fit = record { widths = λ x. either x (binding_of (con
     or_none None h = tt
     or_none (Some e) h = h
 
-    either : (x : List ℕ) (o : Option Entry) → EntryWidth (entry_or o (other_names m x)) → EntryWidth (entry_or o (entry_or (binding_of (entries i.aliases m s k (declared i.overrides m)) x) None))
+    ds : List Declaration
+    ds = declared i.overrides m
+
+    of_declared : (x : List ℕ) → EntryWidth (entry_or (binding_of (entries i.aliases m s k ds) x) None)
+    of_declared x = or_none _ (entries_all EntryWidth i.aliases m s k ds x tt (λ d d_in same s2 k2. entry_width i.overrides i.aliases m s2 k2 d d_in))
+
+    either : (x : List ℕ) (o : Option Entry) → EntryWidth (entry_or o (other_names m x)) → EntryWidth (entry_or o (entry_or (binding_of (entries i.aliases m s k ds) x) None))
     either x (Some e) h = h
-    either x None h = or_none _ (entries_all EntryWidth i.aliases m s k (declared i.overrides m) x tt (λ d d_in same s2 k2. entry_width i.overrides i.aliases m s2 k2 d d_in))
+    either x None h = of_declared x
+
+    by_test : (x : List ℕ) (b : Bool) → EntryWidth (entry_or (cond b (binding_of (constants i.overrides m) x) None) (entry_or (binding_of (entries i.aliases m s k ds) x) None))
+    by_test x true = either x (binding_of (constants i.overrides m) x) (of_constants.widths x)
+    by_test x false = of_declared x
 
 -- and those of a turn
 pub turn_widths : (g : Scope) (h : Header) (v : Vector) → HasWidths g → HasWidth v → HasWidths (in_turn h v g)

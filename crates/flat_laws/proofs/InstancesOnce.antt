@@ -8,11 +8,11 @@ use Rattle.std.proofs.lemmas.List.Elements.{filter-append}
 use Rattle.cov_host.specs.declared.place.Place.{Place}
 use Rattle.design_model.specs.Design.{In, AreDistinct}
 use Rattle.verilog_tree.specs.Tree.{Param, RangeExpr, One, ItemForm, initial_item, port_item, net_item, variable_item, integer_item, parameter_item, continuous_item, always_item, instance_item, Item, Module}
-use Rattle.flat_design.specs.Declarations.{Declaration, Override, Sort, a_net, a_variable, words_from, an_integer, a_parameter, some_instance, faulty, declaration, sort_if, words_sort, item_declarations, all_declarations, completes, completed, add_declaration, is_declared_again, twice_faults, words_faults, is_sound_range}
+use Rattle.flat_design.specs.Declarations.{Declaration, Override, Sort, a_net, a_variable, words_from, an_integer, a_parameter, some_instance, faulty, faulty_memory, declaration, is_any_memory, sort_if, words_sort, item_declarations, all_declarations, completes, completed, add_declaration, is_declared_again, twice_faults, words_faults, is_sound_range}
 use Rattle.flat_design.specs.Fault.{none}
 use Rattle.flat_design.specs.Instances.{constant_scope, declaration_faults}
 use Rattle.flat_design.specs.Scope.{Scope, natural_number}
-use Rattle.flat_laws.proofs.DeclaredOnce.{name_of, is_plain, AreSound, added_sound, not_again, all_sound}
+use Rattle.flat_laws.proofs.DeclaredOnce.{name_of, is_plain, not_again}
 use Rattle.flat_laws.proofs.Freedom.{both_empty, not_told}
 use Rattle.flat_laws.proofs.LawfulScope.{same_bytes}
 use Rattle.flat_laws.proofs.LawfulSound.{no_declaration_faults}
@@ -54,34 +54,28 @@ added_keeps (c ∷ cs) d x h = by_name (added_keeps cs d x) (bytes_eq c.name.nam
     by_name rest false (inr k) = let r = rest (record { found = h.found; is_in = k; named = h.named }) in record { found = r.found; is_in = inr r.is_in; named = r.named }
 
 -- what nothing completes has none of the names before it
-no_more : (sofar ds : List Declaration) → twice_faults sofar ds ≡ [] → AreSound sofar → AreSound ds → (d : Declaration) → In d ds → is_plain d.sort ≡ true → HasName sofar (name_of d) → ⊥
-no_more sofar [] once sound all d h plain named = h
-no_more sofar (e ∷ ds) once sound all d (inl same) plain named =
+no_more : (sofar ds : List Declaration) → twice_faults sofar ds ≡ [] → (d : Declaration) → In d ds → is_plain d.sort ≡ true → HasName sofar (name_of d) → ⊥
+no_more sofar [] once d h plain named = h
+no_more sofar (e ∷ ds) once d (inl same) plain named =
     let p = both_empty _ (twice_faults (add_declaration sofar e) ds) once in
-    not_again sofar named.found d sound (all.sound d (inl same)) plain (subst (λ z. is_declared_again sofar z ≡ false) same (not_told (is_declared_again sofar e) _ p.0)) named.is_in named.named
-no_more sofar (e ∷ ds) once sound all d (inr h) plain named =
+    not_again sofar named.found d plain (subst (λ z. is_declared_again sofar z ≡ false) same (not_told (is_declared_again sofar e) _ p.0)) named.is_in named.named
+no_more sofar (e ∷ ds) once d (inr h) plain named =
     let p = both_empty _ (twice_faults (add_declaration sofar e) ds) once in
-    no_more (add_declaration sofar e) ds p.1 (added_sound sofar e sound (all.sound e (inl refl))) (record { sound = λ x k. all.sound x (inr k) }) d h plain (added_keeps sofar e (name_of d) named)
+    no_more (add_declaration sofar e) ds p.1 d h plain (added_keeps sofar e (name_of d) named)
 
 -- so the names of those that nothing completes differ
-plain_distinct : (p : Declaration → Bool) → ((d : Declaration) → p d ≡ true → is_plain d.sort ≡ true) → (sofar ds : List Declaration) → twice_faults sofar ds ≡ [] → AreSound sofar → AreSound ds → AreDistinct (map name_of (filter p ds))
-plain_distinct p plain sofar [] once sound all = tt
-plain_distinct p plain sofar (d ∷ ds) once sound all = by_test (plain_distinct p plain (add_declaration sofar d) ds rest added others) (p d)
+plain_distinct : (p : Declaration → Bool) → ((d : Declaration) → p d ≡ true → is_plain d.sort ≡ true) → (sofar ds : List Declaration) → twice_faults sofar ds ≡ [] → AreDistinct (map name_of (filter p ds))
+plain_distinct p plain sofar [] once = tt
+plain_distinct p plain sofar (d ∷ ds) once = by_test (plain_distinct p plain (add_declaration sofar d) ds rest) (p d)
   where
     rest : twice_faults (add_declaration sofar d) ds ≡ []
     rest = (both_empty _ (twice_faults (add_declaration sofar d) ds) once).1
-
-    added : AreSound (add_declaration sofar d)
-    added = added_sound sofar d sound (all.sound d (inl refl))
-
-    others : AreSound ds
-    others = record { sound = λ x k. all.sound x (inr k) }
 
     not_among : In (name_of d) (map name_of (filter p ds)) → ⊥
     not_among k =
         let l = in_map name_of (name_of d) (filter p ds) k in
         let f = in_filter p l.0 ds l.1 in
-        no_more (add_declaration sofar d) ds rest added others l.0 f.0 (plain l.0 f.1) (subst (HasName (add_declaration sofar d)) (sym l.2) (added_here sofar d))
+        no_more (add_declaration sofar d) ds rest l.0 f.0 (plain l.0 f.1) (subst (HasName (add_declaration sofar d)) (sym l.2) (added_here sofar d))
 
     by_test : AreDistinct (map name_of (filter p ds)) → (b : Bool) → AreDistinct (map name_of (cond b (d ∷ filter p ds) (filter p ds)))
     by_test more true = (not_among, more)
@@ -102,7 +96,8 @@ instance_plain a_variable h = absurd (false≢true h)
 instance_plain (words_from r) h = refl
 instance_plain an_integer h = refl
 instance_plain a_parameter h = refl
-instance_plain faulty h = refl
+instance_plain faulty h = absurd (false≢true h)
+instance_plain faulty_memory h = refl
 
 -- the name of an instance
 abbrev pub one_name : One → List ℕ
@@ -112,9 +107,13 @@ none_kept : {A : Type 0} (f : A → Declaration) → ((x : A) → is_instance (f
 none_kept f h [] = refl
 none_kept f h (x ∷ xs) = rw (h x) (none_kept f h xs)
 
+no_instance_faulty : (b : Bool) → is_instance_sort (if b then faulty_memory else faulty) ≡ false
+no_instance_faulty true = refl
+no_instance_faulty false = refl
+
 no_instance_if : (b : Bool) (s : Sort) → is_instance_sort s ≡ false → is_instance_sort (sort_if b s) ≡ false
 no_instance_if true s h = h
-no_instance_if false s h = refl
+no_instance_if false s h = no_instance_faulty (is_any_memory s)
 
 no_instance_port : (b : Bool) → is_instance_sort (if b then a_variable else a_net) ≡ false
 no_instance_port true = refl
@@ -159,4 +158,4 @@ pub instances_distinct : (os : List Override) (m : Module) → declaration_fault
 instances_distinct os m e =
     let g = constant_scope os m in
     subst AreDistinct (all_instances_named g m)
-    (plain_distinct is_instance (λ d h. instance_plain d.sort h) [] (all_declarations g m) (no_declaration_faults os m e).twice (record { sound = λ x k. absurd k }) (all_sound os m e))
+    (plain_distinct is_instance (λ d h. instance_plain d.sort h) [] (all_declarations g m) (no_declaration_faults os m e).twice)

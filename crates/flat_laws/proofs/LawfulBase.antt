@@ -6,7 +6,7 @@ use Rattle.std.specs.Prelude.{bytes_eq, flat_map}
 use Rattle.verilog_tree.specs.declared.item.Named.{Named}
 use Rattle.verilog_tree.specs.Tree.{Expr, One, InstanceItem, Declared, ItemForm, initial_item, port_item, net_item, variable_item, integer_item, parameter_item, continuous_item, always_item, instance_item, Item, Module}
 use Rattle.flat_design.specs.Bodies.{Met, met_faults}
-use Rattle.flat_design.specs.Connections.{Joined, as_alias, by_assignment, not_joined, joining, JoinedPort, joined_ports, port_faults, given_faults, overrides, are_sound_overrides}
+use Rattle.flat_design.specs.Connections.{Joined, as_alias, by_assignment, not_joined, joining, JoinedPort, joined_ports, connections_faults, overrides, are_sound_overrides}
 use Rattle.flat_design.specs.Declarations.{Override}
 use Rattle.flat_design.specs.Flat.{join_signal, join_as, join_port, join_ports, instantiation, is_declared_here, one_instance, all_instances, instances_of, module_of, net_value, net_values, item, items, instance, elaborated, elaborated_from, top_instance, start}
 use Rattle.flat_design.specs.Instances.{Instantiation, Sofar, meet, opened, Context, context, is_input, scope_of}
@@ -80,7 +80,7 @@ one_alike : (child other : Instantiation → Sofar → Sofar) → ((i : Instanti
     Alike (one_instance child base (within j n g base) p i m os o a) (one_instance other last (within j n2 g last) p i m os o b)
 one_alike child other kids base last j n n2 g p i m os o a b h =
     let js : List JoinedPort = joined_ports os m i.of_module o.given in
-    let xs : List Met = met_faults (given_faults i.of_module m.ports o.given ++ flat_map (port_faults g) js) in
+    let xs : List Met = met_faults (connections_faults g os m i.of_module o.given) in
     let inner : Instantiation = instantiation (within j n g base) p m os o js in
     let deeper : Alike (child inner (meet xs a)) (other inner (meet xs b)) = kids inner (meet xs a) (meet xs b) (met_alike xs xs a b h) in
     both_if (is_declared_here (within j n g base) o.name) _ a _ b

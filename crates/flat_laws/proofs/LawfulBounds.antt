@@ -16,15 +16,14 @@ use Rattle.elab_const.specs.declared.fault.ConstKind.TheVariants.{BadRange}
 use Rattle.flat_design.specs.Declarations.{Declaration, Override, a_parameter, all_declarations, bounds_faults, declaration, is_sound_range, is_sound_vector, item_declarations, range_names_faulty, range_value, vector_faults}
 use Rattle.flat_design.specs.Expressions.{bound_faults, faults}
 use Rattle.flat_design.specs.Fault.{none}
-use Rattle.flat_design.specs.Identifiers.{params_of}
-use Rattle.flat_design.specs.Instances.{Instantiation, alias_number, constant_scope, constants, declared, entries, is_signal, other_entry, other_names, scope_of, signal_entry}
+use Rattle.flat_design.specs.Instances.{Instantiation, alias_number, constant_scope, declared, entries, is_signal, other_entry, own_constants, scope_of, signal_entry}
 use Rattle.flat_design.specs.Scope.{Scope, binding_of, look_up, names, names_faulty, natural_number, range_or}
 use Rattle.flat_design.specs.declared.entry.Entry.TheVariants.{Signal as a_signal}
 use Rattle.flat_design.specs.declared.entry.SignalEntry.{SignalEntry}
 use Rattle.flat_design.proofs.NoConstFaults.{both_false, both_none, bound_clean}
 use Rattle.flat_laws.proofs.LawfulDeclared.{from_all}
 use Rattle.flat_laws.proofs.LawfulPorts.{declared_signal, other_no_signal, signal_range}
-use Rattle.flat_laws.proofs.LawfulScope.{constants_constant}
+use Rattle.flat_laws.proofs.LawfulScope.{own_constant}
 use Rattle.flat_laws.proofs.LawfulSound.{entries_all}
 use Rattle.flat_laws.proofs.Members.{in_append, in_flat_map, in_map}
 
@@ -97,7 +96,7 @@ all_bounded g m d h = by_part (in_append d (map (λ p. declaration p.name.place 
 
 declared_bounded : (os : List Override) (m : Module) (d : Declaration) → In d (declared os m) → HasBounds d
 declared_bounded os m d h =
-    from_all HasBounds (λ c e k l. record { bounds = k.bounds }) [] (all_declarations (constant_scope os m) m) (λ x k. absurd k) (all_bounded (constant_scope os m) m) d h
+    from_all HasBounds (λ c e k o l. record { bounds = k.bounds }) [] (all_declarations (constant_scope os m) m) (λ x k. absurd k) (all_bounded (constant_scope os m) m) d h
 
 -- what the range of a signal is taken to be
 pub record HasBoundedSignals (g : Scope) : Type 0 where
@@ -109,7 +108,7 @@ or_bounded (Some q) h = h q refl
 
 -- in each instance
 pub scope_bounded : (i : Instantiation) (s k : ℕ) → HasBoundedSignals (scope_of i s k)
-scope_bounded i s k = record { bounded = λ x e found. of_declared x e (declared_signal (binding_of (constants i.overrides m) x) _ e (constants_constant (other_names m) i.overrides [] (params_of m) (λ y. tt) x) found) }
+scope_bounded i s k = record { bounded = λ x e found. of_declared x e (declared_signal (binding_of (own_constants i.overrides m) x) _ e (own_constant i.overrides m x) found) }
   where
     m : Module
     m = i.of_module

@@ -14,7 +14,7 @@ use Rattle.verilog_tree.specs.declared.item.When.TheVariants.{Star, Names, Edges
 use Rattle.verilog_tree.specs.Tree.{Expr, Module, Statement, sequential_block, if_statement, case_statement, for_loop, assignment, system_task, null_statement, Statements, no_statements, a_statement, CaseItems, no_items, case_item}
 use Rattle.elab_const.specs.declared.width.Shape.{Shape}
 use Rattle.flat_design.specs.Bodies.{Met, met_fault, met_signal, met_words, met_process, met_instance, met_statement, met_writing, met_faults, met_writings, met_turns, in_turn, met, all_met, items_met, statement, statements, arms, turn_stmts, case_shape}
-use Rattle.flat_design.specs.Declarations.{Declaration, Sort, a_net, a_variable, words_from, an_integer, a_parameter, some_instance, faulty}
+use Rattle.flat_design.specs.Declarations.{Declaration, Sort, a_net, a_variable, words_from, an_integer, a_parameter, some_instance, faulty, faulty_memory}
 use Rattle.flat_design.specs.Expressions.{faults, all_faults}
 use Rattle.flat_design.specs.Fault.{Fault, none}
 use Rattle.flat_design.specs.Instances.{Instantiation, Sofar, meet, add_process, opening_met, declared, declared_met, named_met, is_own, is_memory, is_memory_sort, is_signal, is_signal_sort, memory_of, words_of, path_faults, declaration_faults, dotted}
@@ -249,6 +249,7 @@ not_both_sorts m x an_integer h = refl
 not_both_sorts m x a_parameter h = refl
 not_both_sorts m x some_instance h = refl
 not_both_sorts m x faulty h = refl
+not_both_sorts m x faulty_memory h = refl
 
 -- what is met at one declaration, by what it is
 abbrev declared_as : Instantiation → Declaration → Bool → Bool → List Met

@@ -8,7 +8,7 @@ use Rattle.design_model.specs.Design.{In}
 use Rattle.design_model.specs.Lawful.{span}
 use Rattle.verilog_tree.specs.declared.item.Named.{Named}
 use Rattle.verilog_tree.specs.Tree.{RangeExpr, ItemForm, initial_item, port_item, net_item, variable_item, integer_item, parameter_item, continuous_item, always_item, instance_item, Module}
-use Rattle.flat_design.specs.Declarations.{Declaration, Override, Sort, a_net, a_variable, words_from, an_integer, a_parameter, some_instance, faulty, range_value, bounds_faults, vector_faults, words_faults, is_sound_range, is_sound_vector, declaration, sort_if, words_sort, item_declarations, all_declarations, is_net, is_variable, is_faulty, completes, completed, add_declaration, declarations_from}
+use Rattle.flat_design.specs.Declarations.{Declaration, Override, Sort, a_net, a_variable, words_from, an_integer, a_parameter, some_instance, faulty, faulty_memory, range_value, bounds_faults, vector_faults, words_faults, is_sound_range, is_sound_vector, declaration, is_any_memory, sort_if, words_sort, item_declarations, all_declarations, is_variable, is_faulty, completes, completed, add_declaration, declarations_from}
 use Rattle.flat_design.specs.Fault.{Fault, fault_if, none}
 use Rattle.flat_design.specs.Instances.{declared, constant_scope}
 use Rattle.flat_design.specs.Scope.{Scope, range_width, natural_number}
@@ -39,16 +39,25 @@ sound_width g (Some r) h =
     let q = both_empty (bounds_faults g r) _ (is_empty (vector_faults g (Some r)) p.0) in
     subst (λ b. range_width (if b then Some (record { high = natural_number g r.high; low = natural_number g r.low }) else None) ≤ 128) (sym h) (small_span 128 (is_sound_range g r) _ _ p.1 q.1)
 
+-- where a range has a fault
+faulty_told : (b : Bool) → is_faulty (if b then faulty_memory else faulty) ≡ false → ⊥
+faulty_told true h = false≢true (sym h)
+faulty_told false h = false≢true (sym h)
+
+faulty_few : (b : Bool) → FewWords (if b then faulty_memory else faulty)
+faulty_few true = tt
+faulty_few false = tt
+
 has_range_if : (g : Scope) (p : Place) (r : Option RangeExpr) (sort : Sort) (signed : Bool) (direction : Option Bool) (x : Named) → FewWords sort → HasRange (declaration p (sort_if (is_sound_vector g r) sort) (range_value g r) signed direction x)
 has_range_if g p r sort signed direction x few = record { bits = λ h. by_test (is_sound_vector g r) refl h; words = by_words (is_sound_vector g r) }
   where
     by_test : (b : Bool) → is_sound_vector g r ≡ b → is_faulty (sort_if b sort) ≡ false → range_width (range_value g r) ≤ 128
     by_test true is h = sound_width g r is
-    by_test false is h = absurd (false≢true (sym h))
+    by_test false is h = absurd (faulty_told (is_any_memory sort) h)
 
     by_words : (b : Bool) → FewWords (sort_if b sort)
     by_words true = few
-    by_words false = tt
+    by_words false = faulty_few (is_any_memory sort)
 
 few_words_sort : (g : Scope) (p : Place) (r : Option RangeExpr) → FewWords (words_sort g p r a_variable)
 few_words_sort g p None = tt
@@ -83,39 +92,35 @@ all_have_range g m d h = by_part (in_append d (map (λ p. declaration p.name.pla
     by_part (inl k) = let l = in_map _ d m.params k in subst HasRange l.2 (record { bits = λ e. omega arith; words = tt })
     by_part (inr k) = let l = in_flat_map _ d m.items k in item_has_range g l.0.place l.0.form d l.2
 
-sound_sort : (s : Sort) → (is_net s || is_variable s) ≡ true → is_faulty s ≡ false
-sound_sort a_net h = refl
-sound_sort a_variable h = refl
-sound_sort (words_from r) h = refl
-sound_sort an_integer h = refl
-sound_sort a_parameter h = refl
-sound_sort some_instance h = refl
-sound_sort faulty h = absurd (false≢true h)
+-- the sort of two declarations of one port
+pub completed_kept : (P : Sort → Type 0) (a b v : Bool) → a ≡ false → b ≡ false → P a_variable → P a_net → P (if a || b then faulty else (if v then a_variable else a_net))
+completed_kept P true b v h k x y = absurd (false≢true (sym h))
+completed_kept P false true v h k x y = absurd (false≢true (sym k))
+completed_kept P false false true h k x y = x
+completed_kept P false false false h k x y = y
 
--- the declaration that is completed is a net or a variable
-pub completes_sound : (c d : Declaration) → completes c d ≡ true → is_faulty c.sort ≡ false
-completes_sound c d h =
-    let p = and_parts _ _ h in
-    let q = and_parts _ _ p.0 in
-    let r = and_parts _ _ q.0 in
-    let s = and_parts _ _ r.0 in
-    sound_sort c.sort s.1
+-- where it is not faulty, the first is not
+completed_first : (a b v : Bool) → is_faulty (if a || b then faulty else (if v then a_variable else a_net)) ≡ false → a ≡ false
+completed_first true b v h = absurd (false≢true (sym h))
+completed_first false b v h = refl
 
-completed_has_range : (c d : Declaration) → HasRange c → completes c d ≡ true → HasRange (completed c d)
-completed_has_range c d h k = record { bits = λ e. h.bits (completes_sound c d k); words = either (is_variable c.sort || is_variable d.sort) }
-  where
-    either : (b : Bool) → FewWords (if b then a_variable else a_net)
-    either true = tt
-    either false = tt
+completed_few : (a v : Bool) → FewWords (if a then faulty else (if v then a_variable else a_net))
+completed_few true v = tt
+completed_few false true = tt
+completed_few false false = tt
+
+completed_has_range : (c d : Declaration) → HasRange c → HasRange d → completes c d ≡ true → HasRange (completed c d)
+completed_has_range c d h o k =
+    record { bits = λ e. h.bits (completed_first (is_faulty c.sort) (is_faulty d.sort) (is_variable c.sort || is_variable d.sort) e); words = completed_few (is_faulty c.sort || is_faulty d.sort) (is_variable c.sort || is_variable d.sort) }
 
 -- what a completed declaration keeps
-pub added_all : (P : Declaration → Type 0) → ((c d : Declaration) → P c → completes c d ≡ true → P (completed c d)) → (cs : List Declaration) (d : Declaration) → ((x : Declaration) → In x cs → P x) → P d → (x : Declaration) → In x (add_declaration cs d) → P x
+pub added_all : (P : Declaration → Type 0) → ((c d : Declaration) → P c → P d → completes c d ≡ true → P (completed c d)) → (cs : List Declaration) (d : Declaration) → ((x : Declaration) → In x cs → P x) → P d → (x : Declaration) → In x (add_declaration cs d) → P x
 added_all P keeps [] d all here x (inl e) = subst P e here
 added_all P keeps [] d all here x (inr h) = absurd h
 added_all P keeps (c ∷ cs) d all here x h = by_name (added_all P keeps cs d (λ y l. all y (inr l)) here x) (bytes_eq c.name.name d.name.name) h
   where
     by_completion : (b : Bool) → completes c d ≡ b → In x ((if b then completed c d else c) ∷ cs) → P x
-    by_completion true is (inl e) = subst P e (keeps c d (all c (inl refl)) is)
+    by_completion true is (inl e) = subst P e (keeps c d (all c (inl refl)) here is)
     by_completion false is (inl e) = subst P e (all c (inl refl))
     by_completion true is (inr k) = all x (inr k)
     by_completion false is (inr k) = all x (inr k)
@@ -126,7 +131,7 @@ added_all P keeps (c ∷ cs) d all here x h = by_name (added_all P keeps cs d (�
     by_name rest false (inr k) = rest k
 
 -- each declared name once keeps what all declarations have
-pub from_all : (P : Declaration → Type 0) → ((c d : Declaration) → P c → completes c d ≡ true → P (completed c d)) → (sofar ds : List Declaration) → ((x : Declaration) → In x sofar → P x) → ((x : Declaration) → In x ds → P x) → (x : Declaration) → In x (declarations_from sofar ds) → P x
+pub from_all : (P : Declaration → Type 0) → ((c d : Declaration) → P c → P d → completes c d ≡ true → P (completed c d)) → (sofar ds : List Declaration) → ((x : Declaration) → In x sofar → P x) → ((x : Declaration) → In x ds → P x) → (x : Declaration) → In x (declarations_from sofar ds) → P x
 from_all P keeps sofar [] h k x l = h x l
 from_all P keeps sofar (d ∷ ds) h k x l = from_all P keeps (add_declaration sofar d) ds (added_all P keeps sofar d h (k d (inl refl))) (λ y r. k y (inr r)) x l
 

@@ -13,7 +13,7 @@ use Rattle.cov_host.specs.declared.place.Place.{Place}
 use Rattle.verilog_tree.specs.declared.item.Named as tree
 use Rattle.verilog_tree.specs.Tree.{Expr, InstanceItem, Module, One}
 use Rattle.flat_design.specs.Connections.{Connection, JoinedPort, connections, connection_of, declaration_of, declared_port, is_sound_port, joined_port, overrides, with_connection, with_value}
-use Rattle.flat_design.specs.Declarations.{Declaration, Sort, a_net, a_variable, words_from, an_integer, a_parameter, some_instance, faulty, is_net, is_variable}
+use Rattle.flat_design.specs.Declarations.{Declaration, Sort, a_net, a_variable, words_from, an_integer, a_parameter, some_instance, faulty, faulty_memory, is_net, is_variable}
 use Rattle.flat_design.specs.Faults.{answer}
 use Rattle.flat_design.specs.Flat.{elaborated}
 use Rattle.flat_design.specs.Instances.{Instantiation, Sofar, Context, context, opened, opening_met, declared, constants, PortAliases, alias_number, alias_of, alias_to, constant_of, has_alias, is_memory, is_memory_sort, is_own, is_signal, is_signal_sort, memory_of, signal_of}
@@ -226,6 +226,7 @@ sound_no_memory an_integer h k = false≢true k
 sound_no_memory a_parameter h k = false≢true k
 sound_no_memory some_instance h k = false≢true k
 sound_no_memory faulty h k = false≢true k
+sound_no_memory faulty_memory h k = false≢true k
 
 not_both : (a b : Bool) → (a && not b) ≡ true → b ≡ true → ⊥
 not_both true true h k = false≢true h

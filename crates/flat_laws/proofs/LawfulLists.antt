@@ -13,7 +13,7 @@ use Rattle.design_model.specs.declared.design.Signal.{Signal}
 use Rattle.verilog_tree.specs.declared.item.When.{When}
 use Rattle.verilog_tree.specs.declared.item.When.TheVariants.{Star, Names, Edges}
 use Rattle.verilog_tree.specs.Tree.{Module, Statement}
-use Rattle.flat_design.specs.Declarations.{Declaration, Sort, a_net, a_variable, words_from, an_integer, a_parameter, some_instance, faulty, is_faulty}
+use Rattle.flat_design.specs.Declarations.{Declaration, Sort, a_net, a_variable, words_from, an_integer, a_parameter, some_instance, faulty, faulty_memory, is_faulty}
 use Rattle.flat_design.specs.Flat.{elaborated}
 use Rattle.flat_design.specs.Faults.{answer}
 use Rattle.flat_design.specs.Instances.{Instantiation, Sofar, context, add_process, opened, declared, constants, constant_of, memory_of, signal_of, is_own, is_memory, is_memory_sort, is_signal, is_signal_sort, sort_words}
@@ -63,6 +63,7 @@ signal_sort_sound m x an_integer h = refl
 signal_sort_sound m x a_parameter h = refl
 signal_sort_sound m x some_instance h = refl
 signal_sort_sound m x faulty h = absurd (false≢true h)
+signal_sort_sound m x faulty_memory h = absurd (false≢true h)
 
 memory_sort_sound : (s : Sort) → is_memory_sort s ≡ true → is_faulty s ≡ false
 memory_sort_sound (words_from r) h = refl
@@ -72,6 +73,7 @@ memory_sort_sound an_integer h = refl
 memory_sort_sound a_parameter h = refl
 memory_sort_sound some_instance h = refl
 memory_sort_sound faulty h = absurd (false≢true h)
+memory_sort_sound faulty_memory h = absurd (false≢true h)
 
 few_words : (s : Sort) → FewWords s → is_memory_sort s ≡ true → nat_le (span (sort_words s).high (sort_words s).low) 65536 ≡ true
 few_words (words_from r) h k = le-leb (span r.high r.low) 65536 h
@@ -81,6 +83,7 @@ few_words an_integer h k = absurd (false≢true k)
 few_words a_parameter h k = absurd (false≢true k)
 few_words some_instance h k = absurd (false≢true k)
 few_words faulty h k = absurd (false≢true k)
+few_words faulty_memory h k = absurd (false≢true k)
 
 -- in a design with more instances
 signal_in_more : (count more : ℕ) (s : Signal) → count ≤ more → SignalIn count s → SignalIn more s

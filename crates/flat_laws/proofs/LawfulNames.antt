@@ -1,19 +1,19 @@
 -- No name of an instance is empty, and none stands for what only constants are told from.
-use Rattle.std.proofs.Common.{◌≡◌, ◌⊎◌, inl, inr, ℕ, Bool, true, false, cond, if◌then◌else◌, List, [], ◌∷◌, ◌++◌, Option, Some, None, refl, sym, ap, subst, map}
+use Rattle.std.proofs.Common.{◌≡◌, ◌⊎◌, inl, inr, ℕ, Bool, true, false, cond, if◌then◌else◌, List, [], ◌∷◌, ◌++◌, Option, Some, None, refl, sym, ap, ◌∙◌, subst, map}
 use Rattle.std.specs.List.{flat_map}
 use Rattle.std.specs.Prelude.{bytes_eq, is_none, unwrap_or}
 use Rattle.cov_host.specs.declared.place.Place.{Place}
 use Rattle.design_model.specs.Design.{In}
 use Rattle.verilog_tree.specs.declared.item.Named.{Named}
 use Rattle.verilog_tree.specs.Tree.{Param, ItemForm, initial_item, port_item, net_item, variable_item, integer_item, parameter_item, continuous_item, always_item, instance_item, Item, Module}
-use Rattle.flat_design.specs.Declarations.{Declaration, Override, Sort, a_net, a_variable, words_from, an_integer, a_parameter, some_instance, faulty, declaration, item_declarations, all_declarations, param_entry, with_param, constants_from}
+use Rattle.flat_design.specs.Declarations.{Declaration, Override, Sort, a_net, a_variable, words_from, an_integer, a_parameter, some_instance, faulty, faulty_memory, declaration, item_declarations, all_declarations, names_parameter, param_entry, with_param, constants_from}
 use Rattle.flat_design.specs.Identifiers.{names_of, declared_names, params_of, item_params}
-use Rattle.flat_design.specs.Instances.{Instantiation, constants, constant_scope, other_names, declared, other_entry, signal_entry, entries, scope_of, is_signal, alias_number}
+use Rattle.flat_design.specs.Instances.{Instantiation, constants, constant_scope, other_names, own_constants, declared, other_entry, signal_entry, entries, scope_of, is_signal, alias_number}
 use Rattle.flat_design.specs.Scope.{Scope, Bindings, binding_of, entry_or, with_bindings, look_up}
 use Rattle.flat_design.specs.declared.entry.Entry.{Entry}
 use Rattle.flat_design.specs.declared.entry.Entry.TheVariants.{Constant as a_constant, Turn as a_turn, Signal as a_signal, Memory as a_memory, LoopVariable as a_loop_variable, Instance as an_instance, NoConstant as no_constant, Faulty as a_faulty_one}
 use Rattle.flat_laws.proofs.LawfulDeclared.{from_all}
-use Rattle.flat_laws.proofs.LawfulScope.{same_bytes, IsConstantOrFaulty, constants_constant}
+use Rattle.flat_laws.proofs.LawfulScope.{same_bytes, IsConstantOrFaulty, binding_kept, own_constant}
 use Rattle.flat_laws.proofs.LawfulSound.{entries_all}
 use Rattle.flat_laws.proofs.Members.{in_append, in_left, in_right, in_map, in_flat_map, in_flat_map_back}
 
@@ -55,7 +55,7 @@ declarations_named g m d h = by_part (in_append d (map (λ p. declaration p.name
 
 pub declared_named : (os : List Override) (m : Module) (d : Declaration) → In d (declared os m) → In d.name (names_of m)
 declared_named os m d h =
-    (from_all (IsNamed (names_of m)) (λ c e k l. record { named = k.named }) [] (all_declarations (constant_scope os m) m) (λ x k. absurd k) (declarations_named (constant_scope os m) m) d h).named
+    (from_all (IsNamed (names_of m)) (λ c e k o l. record { named = k.named }) [] (all_declarations (constant_scope os m) m) (λ x k. absurd k) (declarations_named (constant_scope os m) m) d h).named
 
 params_in_form : (form : ItemForm) (p : Param) → In p (item_params form) → In p.name (declared_names form)
 params_in_form (parameter_item ps) p h = in_map_back (λ x. x.name) p ps h
@@ -103,12 +103,17 @@ constants_not_empty others os sofar (p ∷ ps) h each = constants_not_empty othe
 
 pub scope_not_empty : (i : Instantiation) (s k : ℕ) → ((x : Named) → In x (names_of i.of_module) → x.name ≡ [] → ⊥) → look_up (scope_of i s k) [] ≡ None
 scope_not_empty i s k plain =
-    either (binding_of (constants i.overrides m) []) (binding_of (entries i.aliases m s k (declared i.overrides m)) [])
-    (constants_not_empty (other_names m) i.overrides [] (params_of m) refl (λ p h. plain p.name (param_named m p h)))
+    either (binding_of (own_constants i.overrides m) []) (binding_of (entries i.aliases m s k (declared i.overrides m)) [])
+    (binding_kept (names_parameter (declared i.overrides m)) (constants i.overrides m) []
+    ∙ kept_none (names_parameter (declared i.overrides m) []) _ (constants_not_empty (other_names m) i.overrides [] (params_of m) refl (λ p h. plain p.name (param_named m p h))))
     (entries_all (λ o. o ≡ None) i.aliases m s k (declared i.overrides m) [] refl (λ d h same s2 k2. absurd (plain d.name (declared_named i.overrides m d h) (sym same))))
   where
     m : Module
     m = i.of_module
+
+    kept_none : (b : Bool) (o : Option Entry) → o ≡ None → cond b o None ≡ None
+    kept_none true o h = h
+    kept_none false o h = refl
 
     either : (a b : Option Entry) → a ≡ None → b ≡ None → entry_or a (entry_or b None) ≡ None
     either a b h l = rw (h, l) refl
@@ -126,11 +131,12 @@ other_told k d an_integer = refl
 other_told k d a_parameter = refl
 other_told k d some_instance = refl
 other_told k d faulty = refl
+other_told k d faulty_memory = refl
 
 pub scope_told : (i : Instantiation) (s k : ℕ) (x : List ℕ) → is_no_constant_entry (look_up (scope_of i s k) x) ≡ false
 scope_told i s k x =
-    either (binding_of (constants i.overrides m) x) (binding_of (entries i.aliases m s k (declared i.overrides m)) x)
-    (constants_constant (other_names m) i.overrides [] (params_of m) (λ y. tt) x)
+    either (binding_of (own_constants i.overrides m) x) (binding_of (entries i.aliases m s k (declared i.overrides m)) x)
+    (own_constant i.overrides m x)
     (entries_all (λ o. is_no_constant_entry o ≡ false) i.aliases m s k (declared i.overrides m) x refl (λ d h same s2 k2. by_signal d s2 k2 (is_signal m d)))
   where
     m : Module

@@ -10,16 +10,15 @@ use Rattle.design_model.specs.declared.design.Signal.{Signal}
 use Rattle.verilog_tree.specs.declared.item.Named.{Named}
 use Rattle.verilog_tree.specs.Tree.{Expr, InstanceItem, Item, Module, One}
 use Rattle.flat_design.specs.Connections.{overrides, as_alias, by_assignment, joining, JoinedPort, Connection, connections, connection_of, declaration_of, is_sound_port, with_value, with_connection, declared_port, joined_port, port_alias}
-use Rattle.flat_design.specs.Declarations.{Declaration, Sort, a_net, a_variable, words_from, an_integer, a_parameter, some_instance, faulty}
-use Rattle.flat_design.specs.Identifiers.{params_of}
-use Rattle.flat_design.specs.Instances.{Instantiation, Sofar, PortAliases, opened, Context, context, constants, other_names, declared, declared_entry, other_entry, entries, alias_number, is_own, is_memory, is_signal, signal_entry, signal_of, scope_of}
+use Rattle.flat_design.specs.Declarations.{Declaration, Sort, a_net, a_variable, words_from, an_integer, a_parameter, some_instance, faulty, faulty_memory}
+use Rattle.flat_design.specs.Instances.{Instantiation, Sofar, PortAliases, opened, Context, context, own_constants, declared, declared_entry, other_entry, entries, alias_number, is_own, is_memory, is_signal, signal_entry, signal_of, scope_of}
 use Rattle.flat_design.specs.Numbering.{one_if}
 use Rattle.flat_design.specs.Scope.{binding_of, entry_or, look_up}
 use Rattle.flat_design.specs.declared.entry.Entry.{Entry}
 use Rattle.flat_design.specs.declared.entry.Entry.TheVariants.{Constant as a_constant, Turn as a_turn, Signal as a_signal, Memory as a_memory, LoopVariable as a_loop_variable, Instance as an_instance, NoConstant as no_constant, Faulty as a_faulty_one}
 use Rattle.flat_design.specs.declared.entry.SignalEntry.{SignalEntry}
 use Rattle.flat_laws.proofs.Continues.{Continues}
-use Rattle.flat_laws.proofs.LawfulScope.{same_bytes, found_passes, alias_found, step_whole, step_length, IsConstantOrFaulty, constants_constant}
+use Rattle.flat_laws.proofs.LawfulScope.{same_bytes, found_passes, alias_found, step_whole, step_length, IsConstantOrFaulty, own_constant}
 use Rattle.flat_laws.proofs.Members.{in_flat_map}
 use Rattle.flat_laws.proofs.Steps.{inner_of, ports_of, IsJoined}
 
@@ -36,6 +35,7 @@ other_no_signal k d an_integer e h = cc
 other_no_signal k d a_parameter e h = cc
 other_no_signal k d some_instance e h = cc
 other_no_signal k d faulty e h = cc
+other_no_signal k d faulty_memory e h = cc
 
 signal_number : (n : ℕ) (d : Declaration) (e : SignalEntry) → Some (signal_entry n d) ≡ Some (a_signal e) → n ≡ e.number
 signal_number n d e h = ap number_in h
@@ -99,8 +99,8 @@ scope_own i before now x e below h no_alias found =
     (length before.design.signals) (length before.design.memories) x e
     (subst (λ b. now.design.signals ≡ before.design.signals ++ (map (signal_of (length before.design.instances) b) (filter (is_own i.aliases i.of_module) (declared i.overrides i.of_module)) ++ h.signals.rest)) below (h.signals.whole ∙ append_assoc before.design.signals _ h.signals.rest))
     refl (omega arith) no_alias
-    (declared_signal (binding_of (constants i.overrides i.of_module) x) (binding_of (entries i.aliases i.of_module (length before.design.signals) (length before.design.memories) (declared i.overrides i.of_module)) x) e
-    (constants_constant (other_names i.of_module) i.overrides [] (params_of i.of_module) (λ y. tt) x) found)
+    (declared_signal (binding_of (own_constants i.overrides i.of_module) x) (binding_of (entries i.aliases i.of_module (length before.design.signals) (length before.design.memories) (declared i.overrides i.of_module)) x) e
+    (own_constant i.overrides i.of_module x) found)
 
 -- a port and its connection are those of its name
 record IsOf (ds : List Declaration) (cs : List Connection) (j : JoinedPort) (x : List ℕ) : Type 0 where

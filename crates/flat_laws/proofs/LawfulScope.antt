@@ -15,9 +15,9 @@ use Rattle.design_model.specs.declared.design.Signal.{Signal}
 use Rattle.verilog_tree.specs.declared.item.Named.{Named}
 use Rattle.verilog_tree.specs.Tree.{Expr, Module, One, InstanceItem, Param, identifier}
 use Rattle.flat_design.specs.Connections.{overrides, Joined, as_alias, by_assignment, not_joined, takes_output, joined_name, joining, joined_faults, JoinedPort, Connection, connections, connection_of, declaration_of, is_sound_port, with_value, with_connection, declared_port, joined_port, alias_as, port_alias}
-use Rattle.flat_design.specs.Declarations.{Declaration, Override, Sort, a_net, a_variable, words_from, an_integer, a_parameter, some_instance, faulty, is_net, same_range, param_entry, param_faults, is_sound_vector, typed_value, overridden, with_param, constants_from}
+use Rattle.flat_design.specs.Declarations.{Declaration, Override, Sort, a_net, a_variable, words_from, an_integer, a_parameter, some_instance, faulty, faulty_memory, is_net, names_parameter, same_range, param_entry, param_faults, is_sound_vector, typed_value, overridden, with_param, constants_from}
 use Rattle.flat_design.specs.Identifiers.{params_of}
-use Rattle.flat_design.specs.Instances.{Instantiation, Sofar, PortAliases, opened, Context, context, constants, other_names, declared, declared_entry, other_entry, entries, alias_number, is_own, is_memory, is_signal, is_input, signal_entry, signal_of, memory_of, sort_words, is_memory_sort}
+use Rattle.flat_design.specs.Instances.{Instantiation, Sofar, PortAliases, opened, Context, context, constants, other_names, own_constants, declared, declared_entry, other_entry, entries, alias_number, is_own, is_memory, is_signal, is_input, signal_entry, signal_of, memory_of, sort_words, is_memory_sort}
 use Rattle.flat_design.specs.Numbering.{one_if}
 use Rattle.flat_design.specs.Scope.{Scope, Bindings, binding_of, entry_or, look_up, range_or, range_width, with_bindings, names_faulty, constant}
 use Rattle.flat_design.specs.declared.entry.Entry.{Entry}
@@ -153,6 +153,7 @@ declared_matches aliases m number top d ds xs fs rs ys ks us e1 e2 aliased = by_
     by_sort a_parameter is = tt
     by_sort some_instance is = tt
     by_sort faulty is = tt
+    by_sort faulty_memory is = tt
 
     by_signal : (b : Bool) → is_signal m d ≡ b → EntryMatches xs ys (Some (if b then signal_entry (unwrap_or (alias_number aliases d.name.name) (length fs)) d else other_entry (length ks) d d.sort))
     by_signal true is = by_alias is (alias_number aliases d.name.name) refl
@@ -215,6 +216,40 @@ constants_constant others os sofar (p ∷ ps) all x = constants_constant others 
     by_test true y = pushed_constant sofar p.name.name (param_entry (with_bindings sofar others) os p) y (all y) (param_constant (with_bindings sofar others) os p)
     by_test false y = all y
 
+-- what the names that pass a test are bound to
+pub binding_kept : (p : List ℕ → Bool) (bs : Bindings) (x : List ℕ) → binding_of (filter (λ b. p b.0) bs) x ≡ cond (p x) (binding_of bs x) None
+binding_kept p [] x = by_test (p x)
+  where
+    by_test : (b : Bool) → None ≡ cond b (binding_of [] x) None
+    by_test true = refl
+    by_test false = refl
+binding_kept p ((w, e) ∷ bs) x = first (p w) ∙ by_tests (bytes_eq x w) (p w) (p x) (λ same. ap p (sym (same_bytes x w same))) (binding_kept p bs x)
+  where
+    rest : Option Entry
+    rest = binding_of (filter (λ b. p b.0) bs) x
+
+    first : (b : Bool) → binding_of (cond b ((w, e) ∷ filter (λ c. p c.0) bs) (filter (λ c. p c.0) bs)) x ≡ cond b (cond (bytes_eq x w) (Some e) rest) rest
+    first true = refl
+    first false = refl
+
+    by_tests : (s a b : Bool) → (s ≡ true → a ≡ b) → rest ≡ cond b (binding_of bs x) None → cond a (cond s (Some e) rest) rest ≡ cond b (cond s (Some e) (binding_of bs x)) None
+    by_tests true true true h k = refl
+    by_tests true true false h k = absurd (false≢true (sym (h refl)))
+    by_tests true false true h k = absurd (false≢true (h refl))
+    by_tests true false false h k = k
+    by_tests false true true h k = k
+    by_tests false true false h k = k
+    by_tests false false true h k = k
+    by_tests false false false h k = k
+
+-- the parameters that names of an instance stand for
+pub own_constant : (os : List Override) (m : Module) (x : List ℕ) → IsConstantOrFaulty (binding_of (own_constants os m) x)
+own_constant os m x = subst IsConstantOrFaulty (sym (binding_kept (names_parameter (declared os m)) (constants os m) x)) (by_test (names_parameter (declared os m) x))
+  where
+    by_test : (b : Bool) → IsConstantOrFaulty (cond b (binding_of (constants os m) x) None)
+    by_test true = constants_constant (other_names m) os [] (params_of m) (λ y. tt) x
+    by_test false = tt
+
 either_matches : (xs : List Signal) (ys : List Memory) (a b : Option Entry) → IsConstantOrFaulty a → EntryMatches xs ys b → EntryMatches xs ys (entry_or a b)
 either_matches xs ys None b h k = k
 either_matches xs ys (Some (a_constant v)) b h k = tt
@@ -234,8 +269,8 @@ or_nothing xs ys (Some e) k = k
 pub scope_matches : (base : ℕ) (i : Instantiation) (before now : Sofar) → HasAliases before.design.signals i → Continues (opened i before) now →
     ScopeMatches now.design.signals now.design.memories (context base i before).scope
 scope_matches base i before now known h x =
-    either_matches now.design.signals now.design.memories (binding_of (constants i.overrides i.of_module) x) _
-    (constants_constant (other_names i.of_module) i.overrides [] (params_of i.of_module) (λ y. tt) x)
+    either_matches now.design.signals now.design.memories (binding_of (own_constants i.overrides i.of_module) x) _
+    (own_constant i.overrides i.of_module x)
     (or_nothing now.design.signals now.design.memories _
     (entries_match i.aliases i.of_module (length before.design.instances) i.is_top (declared i.overrides i.of_module)
     now.design.signals before.design.signals h.signals.rest now.design.memories before.design.memories h.memories.rest

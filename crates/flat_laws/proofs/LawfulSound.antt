@@ -8,7 +8,7 @@ use Rattle.design_model.specs.Design.{In}
 use Rattle.design_model.specs.declared.design.Range.{Range}
 use Rattle.verilog_tree.specs.declared.item.Named.{Named}
 use Rattle.verilog_tree.specs.Tree.{Expr, RangeExpr, Param, ItemForm, initial_item, port_item, net_item, variable_item, integer_item, parameter_item, continuous_item, always_item, instance_item, Item, Module, Declared}
-use Rattle.flat_design.specs.Declarations.{Declaration, Override, Sort, a_net, a_variable, words_from, an_integer, a_parameter, some_instance, faulty, bounds_faults, vector_faults, words_faults, is_sound_range, is_sound_vector, param_faults, param_entry, typed_value, overridden, with_param, constants_from, constants_faults, declaration, sort_if, words_sort, item_declarations, item_range_faults, declared_words_faults, all_declarations, is_variable, is_faulty, completes, completed, twice_faults, listed_twice, direction_faults}
+use Rattle.flat_design.specs.Declarations.{Declaration, Override, Sort, a_net, a_variable, words_from, an_integer, a_parameter, some_instance, faulty, faulty_memory, bounds_faults, vector_faults, words_faults, is_sound_range, is_sound_vector, param_faults, param_entry, typed_value, overridden, with_param, constants_from, constants_faults, declaration, sort_if, words_sort, item_declarations, item_range_faults, declared_words_faults, all_declarations, is_parameter, is_variable, is_faulty, names_parameter, completes, completed, twice_faults, listed_twice, direction_faults}
 use Rattle.flat_design.specs.Expressions.{constant_faults, faults}
 use Rattle.flat_design.specs.Fault.{none}
 use Rattle.flat_design.specs.Identifiers.{identifiers, is_among, params_of, item_params, names_of}
@@ -17,10 +17,10 @@ use Rattle.flat_design.specs.Numbering.{one_if}
 use Rattle.flat_design.specs.Scope.{Scope, Bindings, binding_of, entry_or, with_bindings, look_up, names_faulty, is_faulty_entry, constant}
 use Rattle.flat_design.specs.declared.entry.Entry.{Entry}
 use Rattle.flat_design.specs.declared.entry.Entry.TheVariants.{Constant as a_constant, NoConstant as no_constant, Faulty as a_faulty_one}
-use Rattle.flat_laws.proofs.Freedom.{both_empty}
-use Rattle.flat_laws.proofs.LawfulDeclared.{from_all}
+use Rattle.flat_laws.proofs.Freedom.{both_empty, neither}
+use Rattle.flat_laws.proofs.LawfulDeclared.{completed_kept, from_all}
 use Rattle.flat_laws.proofs.LawfulEvents.{each_empty}
-use Rattle.flat_laws.proofs.LawfulScope.{same_bytes, bytes_same}
+use Rattle.flat_laws.proofs.LawfulScope.{same_bytes, bytes_same, binding_kept}
 use Rattle.flat_laws.proofs.Members.{in_append, in_left, in_right, in_map, in_flat_map, in_flat_map_back}
 
 -- no name stands for something faulty
@@ -128,9 +128,11 @@ either_sort : (P : Sort → Type 0) (b : Bool) → P a_variable → P a_net → 
 either_sort P true h k = h
 either_sort P false h k = k
 
-completed_fine : (m : Module) (c d : Declaration) → IsFine m c → completes c d ≡ true → IsFine m (completed c d)
+completed_fine : (m : Module) (c d : Declaration) → IsFine m c → IsFine m d → completes c d ≡ true → IsFine m (completed c d)
 unfolding not_parameter
-completed_fine m c d h k = fine_sort m (completed c d) (either_sort (λ s. is_faulty s ≡ false) (is_variable c.sort || is_variable d.sort) refl refl) (either_sort (λ s. not_parameter s ≡ true) (is_variable c.sort || is_variable d.sort) refl refl)
+completed_fine m c d h o k =
+    let v : Bool = is_variable c.sort || is_variable d.sort in
+    fine_sort m (completed c d) (completed_kept (λ s. is_faulty s ≡ false) (is_faulty c.sort) (is_faulty d.sort) v h.sound o.sound refl refl) (completed_kept (λ s. not_parameter s ≡ true) (is_faulty c.sort) (is_faulty d.sort) v h.sound o.sound refl refl)
 
 -- a sort that is kept where the range is sound
 kept_sort : (P : Sort → Type 0) (b : Bool) (s : Sort) → b ≡ true → P s → P (sort_if b s)
@@ -236,12 +238,19 @@ sort_not_faulty m x k d an_integer n a b = refl
 sort_not_faulty m x k d some_instance n a b = refl
 sort_not_faulty m x k d a_parameter n a b = absurd (b refl)
 sort_not_faulty m x k d faulty n a b = absurd (false≢true (sym a))
+sort_not_faulty m x k d faulty_memory n a b = absurd (false≢true (sym a))
 sort_not_faulty m x k d a_net n a b = absurd (false≢true (sym n))
 sort_not_faulty m x k d a_variable n a b = absurd (false≢true (sym n))
 
+-- a test that none passes
+pub none_passes : {A : Type 0} (p : A → Bool) (xs : List A) (x : A) → list_any p xs ≡ false → In x xs → p x ≡ false
+none_passes p [] x h k = absurd k
+none_passes p (y ∷ ys) x h (inl e) = subst (λ z. p z ≡ false) e (neither (p y) (list_any p ys) h).0
+none_passes p (y ∷ ys) x h (inr k) = none_passes p ys x (neither (p y) (list_any p ys) h).1 k
+
 -- in an instance whose declarations have no fault no name stands for something faulty
 pub scope_sound : (i : Instantiation) (s k : ℕ) → declaration_faults i.overrides i.of_module ≡ [] → IsSoundScope (scope_of i s k)
-scope_sound i s k e = record { sound = λ x. by_constant x (binding_of cs x) refl (of_constants.sound x) }
+scope_sound i s k e = record { sound = λ x. subst (λ o. is_faulty_entry (entry_or o (entry_or (binding_of (entries i.aliases m s k ds) x) None)) ≡ false) (sym (binding_kept (names_parameter ds) cs x)) (by_test x (names_parameter ds x) refl) }
   where
     m : Module
     m = i.of_module
@@ -255,27 +264,33 @@ scope_sound i s k e = record { sound = λ x. by_constant x (binding_of cs x) ref
     of_constants : IsSoundScope (with_bindings cs (other_names m))
     of_constants = constant_scope_sound i.overrides m e
 
-    by_declaration : (x : List ℕ) → binding_of cs x ≡ None → (d : Declaration) → In d ds → x ≡ d.name.name → (s k : ℕ) → is_faulty_entry (Some (declared_entry i.aliases m s k d)) ≡ false
-    by_declaration x none_of d h same s k = by_signal (is_signal m d) refl
+    by_declaration : (x : List ℕ) → ((d : Declaration) → In d ds → d.name.name ≡ x → d.sort ≡ a_parameter → ⊥) → (d : Declaration) → In d ds → x ≡ d.name.name → (s k : ℕ) → is_faulty_entry (Some (declared_entry i.aliases m s k d)) ≡ false
+    by_declaration x no_parameter d h same s k = by_signal (is_signal m d) refl
       where
-        fine : IsFine m d
-        fine = declared_fine i.overrides m e d h
-
-        no_parameter : d.sort ≡ a_parameter → ⊥
-        no_parameter is =
-            let p = fine.parameter is in
-            let bound : is_none (binding_of cs p.0.name.name) ≡ false = parameter_bound (other_names m) i.overrides [] (params_of m) p.0 p.1 in
-            let name : p.0.name.name ≡ x = ap (λ z. z.name) p.2 ∙ sym same in
-            false≢true (sym (subst (λ z. is_none (binding_of cs z) ≡ false) name bound) ∙ ap (λ o. is_none o) none_of)
-
         by_signal : (b : Bool) → is_signal m d ≡ b → is_faulty_entry (Some (if b then signal_entry (unwrap_or (alias_number i.aliases d.name.name) s) d else other_entry k d d.sort)) ≡ false
         by_signal true is = refl
-        by_signal false is = sort_not_faulty m d.name.name k d d.sort is fine.sound no_parameter
+        by_signal false is = sort_not_faulty m d.name.name k d d.sort is (declared_fine i.overrides m e d h).sound (no_parameter d h (sym same))
 
     or_none : (o : Option Entry) → is_faulty_entry o ≡ false → is_faulty_entry (entry_or o None) ≡ false
     or_none None h = refl
     or_none (Some y) h = h
 
+    of_declared : (x : List ℕ) → ((d : Declaration) → In d ds → d.name.name ≡ x → d.sort ≡ a_parameter → ⊥) → is_faulty_entry (entry_or (binding_of (entries i.aliases m s k ds) x) None) ≡ false
+    of_declared x no_parameter = or_none _ (entries_all (λ o. is_faulty_entry o ≡ false) i.aliases m s k ds x refl (by_declaration x no_parameter))
+
+    not_bound : (x : List ℕ) → binding_of cs x ≡ None → (d : Declaration) → In d ds → d.name.name ≡ x → d.sort ≡ a_parameter → ⊥
+    not_bound x none_of d h same is =
+        let p = (declared_fine i.overrides m e d h).parameter is in
+        let bound : is_none (binding_of cs p.0.name.name) ≡ false = parameter_bound (other_names m) i.overrides [] (params_of m) p.0 p.1 in
+        let name : p.0.name.name ≡ x = ap (λ z. z.name) p.2 ∙ same in
+        false≢true (sym (subst (λ z. is_none (binding_of cs z) ≡ false) name bound) ∙ ap (λ o. is_none o) none_of)
+
     by_constant : (x : List ℕ) (o : Option Entry) → binding_of cs x ≡ o → is_faulty_entry (entry_or o (other_names m x)) ≡ false → is_faulty_entry (entry_or o (entry_or (binding_of (entries i.aliases m s k ds) x) None)) ≡ false
     by_constant x (Some y) is h = h
-    by_constant x None is h = or_none _ (entries_all (λ o. is_faulty_entry o ≡ false) i.aliases m s k ds x refl (by_declaration x is))
+    by_constant x None is h = of_declared x (not_bound x is)
+
+    by_test : (x : List ℕ) (b : Bool) → names_parameter ds x ≡ b → is_faulty_entry (entry_or (cond b (binding_of cs x) None) (entry_or (binding_of (entries i.aliases m s k ds) x) None)) ≡ false
+    by_test x true is = by_constant x (binding_of cs x) refl (of_constants.sound x)
+    by_test x false is = of_declared x (λ d h same sort.
+        let told : (bytes_eq d.name.name x && is_parameter d.sort) ≡ true = rw (bytes_same d.name.name x same, sort) refl in
+        false≢true (sym (none_passes (λ c. bytes_eq c.name.name x && is_parameter c.sort) ds d is h) ∙ told))

@@ -8,7 +8,7 @@ use Rattle.design_model.specs.Design.{In}
 use Rattle.verilog_tree.specs.declared.item.When.{When}
 use Rattle.verilog_tree.specs.Tree.{Expr, Statement, One, InstanceItem, Declared, ItemForm, initial_item, port_item, net_item, variable_item, integer_item, parameter_item, continuous_item, always_item, instance_item, Item, Module, identifier}
 use Rattle.flat_design.specs.Bodies.{Met, met_fault, met_faults}
-use Rattle.flat_design.specs.Connections.{Joined, as_alias, by_assignment, not_joined, joining, JoinedPort, joined_ports, port_faults, given_faults, overrides, override_faults, are_sound_overrides}
+use Rattle.flat_design.specs.Connections.{Joined, as_alias, by_assignment, not_joined, joining, JoinedPort, joined_ports, connections_faults, overrides, override_faults, are_sound_overrides}
 use Rattle.flat_design.specs.Fault.{Fault, fault_at}
 use Rattle.flat_design.specs.declared.fault.ElabKind.TheVariants.{Recursion}
 use Rattle.flat_design.specs.Flat.{start, top_instance, elaborated_from, join_as, join_port, join_ports, instantiation, replaced, is_declared_here, one_instance, all_instances, instances_of, module_of, net_value, net_values, item, items, instance}
@@ -37,7 +37,7 @@ inner_of c p i m o = instantiation c p m (overrides c.scope i.of_module m i.over
 
 -- what is met before an instance is opened
 abbrev pub connections_met : Context → InstanceItem → Module → One → List Met
-connections_met c i m o = met_faults (given_faults i.of_module m.ports o.given ++ flat_map (port_faults c.scope) (ports_of c i m o))
+connections_met c i m o = met_faults (connections_faults c.scope (overrides c.scope i.of_module m i.overrides) m i.of_module o.given)
 
 -- an instance of module m that an item of the instance i names
 pub record IsBelow (base : ℕ) (ms : List Module) (i : Instantiation) (before : Sofar) (x : Item) (k : InstanceItem) (m : Module) (o : One) : Type 0 where

@@ -13,16 +13,17 @@ use crate::verdicts::with_verdicts;
 use cov_host::{Name, NoMemory, Sequence};
 use cover_marks::Marks;
 use cover_points::{MOST_POINTS, Points};
-use coverage_db::{Db, DbPoint};
+use coverage_db::{Db, DbPoint, Window};
 use design_model::Design;
 use std::alloc::Global;
 
-/// The table of a design from these sources: each point with the verdict of its marks.
+/// The table of a design from these sources, under dumps with these windows: each point with the verdict of its marks.
 pub fn collect(
     alloc: Global,
     design: &Design,
     points: &Points,
     marks: &Marks,
+    windows: Sequence<Window>,
     sources: Sequence<Name>,
 ) -> Result<Db, NoMemory>
     requires listed { AreListed (design_view design.now) points.now }
@@ -30,6 +31,7 @@ pub fn collect(
     requires marks { AreMarksOf points.now marks.now }
     requires things { All (IsOfDesign (design_view design.now)) marks.now.verdicts }
     ensures table { IfOk result (IsCollected (design_view design.now) sources points.now) }
+    ensures windows { IfOk result (λ db. db.windows ≡ windows) }
     ensures verdicts { IfOk result (λ db. AreShown (design_view design.now) marks.now.verdicts db.points) }
     ensures markings { (markings : List Marking) → IsMarked markings marks.now.verdicts → IfOk result (λ db. HaveVerdicts (design_view design.now) markings db.points) }
 {
@@ -43,6 +45,7 @@ pub fn collect(
         sources,
         instances: rows_of(alloc, instances, order.as_slice())?,
         points: Sequence::from_vec(rows),
+        windows,
     })
 }
 

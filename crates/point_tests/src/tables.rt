@@ -61,7 +61,14 @@ fn table_with(
     if !add_marks(design, points, marked, &mut marks) {
         return None;
     }
-    match collect(alloc, design, points, &marks, Sequence::new(alloc)) {
+    match collect(
+        alloc,
+        design,
+        points,
+        &marks,
+        Sequence::new(alloc),
+        Sequence::new(alloc),
+    ) {
         Ok(table) => Some(table),
         Err(_) => None,
     }

@@ -1,10 +1,11 @@
 -- The table that is collected with scored verdicts.
-use Rattle.std.proofs.Common.{ℕ, List, [], None, Ok, Err, false, refl}
+use Rattle.std.proofs.Common.{◌≡◌, ℕ, List, [], None, Ok, Err, false, refl, subst, sym, ◌∙◌}
 use Rattle.std.specs.List.{All}
 use Rattle.std.specs.Prelude.{IfOk, Result}
 use Rattle.std.proofs.lemmas.List.Elements.{All-weaker}
-use Rattle.coverage_db.specs.Table.{IsTable}
+use Rattle.coverage_db.specs.Table.{AreWindows, IsTable}
 use Rattle.coverage_db.specs.declared.db.Db.{Db}
+use Rattle.coverage_db.specs.declared.window.Window.{Window}
 use Rattle.cover_points.specs.declared.listing.Points.{Points}
 use Rattle.design_model.specs.Design.{Design}
 use Rattle.design_model.specs.Lawful.{IsLawfulDesign}
@@ -26,6 +27,7 @@ use Rattle.verdict_laws.proofs.NoStep.{no_reasons, no_sound}
 use Rattle.verdict_laws.proofs.Rows.{reasoned_table, sound_table}
 use Rattle.verdict_laws.proofs.Written.{written}
 use Rattle.score_tables.specs.Scored.{AreScored, HasSmallTimes, IsScoreTable}
+use Rattle.score_tables.specs.Windows.{windows_of}
 use Rattle.score_tables.proofs.Rows.{head_is}
 
 -- a replay that has reported nothing
@@ -53,18 +55,19 @@ module _ (d : Design) (h : Habit) (dump : BoundDump) (ms : StateMachines) (ps : 
   pub are_of_design : All (IsOfDesign d) vs
   are_of_design = All-weaker (IsWrittenVerdict d) (IsOfDesign d) (of_design d) vs are_written
 
-  pub score_is : (names : List (List ℕ)) (db : Db) → All IsWrittenMachine ps.machines.items → IsWritten names d → IsRooted d → IsCollected d names ps db → AreShown d vs db.points → IsScoreTable d h dump ms names db
-  score_is names db named is_written rooted is shown =
-      let table : IsTable db = collected_is d names ps vs db lawful is_written (ms, all.listed) all.few named are_written is shown in
+  pub score_is : (names : List (List ℕ)) (windows : List Window) (db : Db) → All IsWrittenMachine ps.machines.items → IsWritten names d → IsRooted d → AreWindows windows → windows ≡ windows_of dump.times → IsCollected d names ps db → db.windows ≡ windows → AreShown d vs db.points → IsScoreTable d h dump ms names db
+  score_is names windows db named is_written rooted rise of_dump is kept shown =
+      let table : IsTable db = collected_is d names ps vs db lawful is_written (ms, all.listed) all.few named are_written is (subst AreWindows (sym kept) rise) shown in
       record {
         table = table;
         head = head_is d names ps db rooted is table.instances_rise;
         listed = lists_points d names ms ps db lawful is_written all.listed named is;
         sound = sound_table d h dump names ms ps vs scored.replay db lawful is_written all.listed named is table shown scored.verdicts scored.sound;
         reasoned = reasoned_table d h dump names ms ps vs scored.replay db lawful is_written all.listed named is table shown scored.verdicts scored.reasoned;
+        windows = kept ∙ of_dump;
       }
 
--- what the collected table and its verdicts say together
-pub both_say : {T E : Type 0} {P Q R : T → Type 0} (result : Result T E) → ((x : T) → P x → Q x → R x) → IfOk result P → IfOk result Q → IfOk result R
-both_say (Ok x) step p q = step x p q
-both_say (Err e) step p q = tt
+-- what the collected table, its windows and its verdicts say together
+pub all_say : {T E : Type 0} {P Q R S : T → Type 0} (result : Result T E) → ((x : T) → P x → Q x → R x → S x) → IfOk result P → IfOk result Q → IfOk result R → IfOk result S
+all_say (Ok x) step p q r = step x p q r
+all_say (Err e) step p q r = tt

@@ -1,4 +1,5 @@
 pub mod Head
+pub mod Windows
 pub mod Scored
 pub use Rattle.design_points.specs as design_points
 pub use Rattle.instance_paths.specs as instance_paths

@@ -1,5 +1,5 @@
 -- What the table of a score says of a design under a dump.
-use Rattle.std.specs.Prelude.{◌<◌, ◌^◌, ℕ, List}
+use Rattle.std.specs.Prelude.{◌≡◌, ◌<◌, ◌^◌, ℕ, List}
 use Rattle.coverage_db.specs.Table.{IsTable}
 use Rattle.coverage_db.specs.declared.db.Db.{Db}
 use Rattle.cover_points.specs.Listed.{points_of}
@@ -16,6 +16,7 @@ use Rattle.verdict_laws.specs.table_laws.Rows.{ListsPoints}
 use Rattle.verdict_laws.specs.Reasoned.{IsReasoned}
 use Rattle.verdict_laws.specs.Sound.{IsSound}
 use Rattle.score_tables.specs.Head.{HasHead}
+use Rattle.score_tables.specs.Windows.{windows_of}
 
 -- the verdicts are those of a replay, and hold under the dump
 pub record AreScored (d : Design) (h : Habit) (dump : BoundDump) (ps : Points) (vs : List Verdict) : Type 0 where
@@ -35,3 +36,4 @@ pub record IsScoreTable (d : Design) (h : Habit) (dump : BoundDump) (ms : StateM
   pub listed : ListsPoints d ms db
   pub sound : IsSound d h dump ms db
   pub reasoned : IsReasoned d h dump ms db
+  pub windows : db.windows ≡ windows_of dump.times

@@ -10,7 +10,7 @@ use Rattle.std.proofs.lemmas.List.{get_or-map, length-map, map-append}
 use Rattle.std.proofs.lemmas.List.Elements.{All-append, All-from_get_or, All-get_or, All-map}
 use Rattle.std.proofs.lemmas.Simd.{map-map}
 use Rattle.coverage_db.specs.Order.{address_cmp, bytes_cmp, letter_rank, rule_cmp}
-use Rattle.coverage_db.specs.Table.{IsIdentifier, IsInstance, IsSubject, IsTable, IsThingIn, Rises, is_file_name}
+use Rattle.coverage_db.specs.Table.{AreWindows, IsIdentifier, IsInstance, IsSubject, IsTable, IsThingIn, Rises, is_file_name}
 use Rattle.coverage_db.specs.Table.{IsVerdict as IsTextVerdict}
 use Rattle.coverage_db.specs.declared.address.Address.{Address}
 use Rattle.coverage_db.specs.declared.db.Db.{Db}
@@ -229,8 +229,8 @@ module _ (d : Design) (lawful : IsLawfulDesign d) (sources : List (List ℕ)) (w
       All-from_get_or (λ (p : DbPoint). IsTextVerdict rows p.verdict) points no_row (λ k l.
       subst (IsTextVerdict rows) (sym (h.each k l)) (verdict_is (get_or verdicts k Missed) (All-get_or (IsWrittenVerdict d) verdicts k Missed (omega (arith, l, h.count)) all)))
 
-pub collected_is : (d : Design) (sources : List (List ℕ)) (ps : Points) (verdicts : List Verdict) (db : Db) → IsLawfulDesign d → IsWritten sources d → AreListed d ps → length (points_of ps) ≤ MOST_POINTS → All IsWrittenMachine ps.machines.items → All (IsWrittenVerdict d) verdicts → IsCollected d sources ps db → AreShown d verdicts db.points → IsTable db
-collected_is d sources ps verdicts db lawful written listed few named all is shown =
+pub collected_is : (d : Design) (sources : List (List ℕ)) (ps : Points) (verdicts : List Verdict) (db : Db) → IsLawfulDesign d → IsWritten sources d → AreListed d ps → length (points_of ps) ≤ MOST_POINTS → All IsWrittenMachine ps.machines.items → All (IsWrittenVerdict d) verdicts → IsCollected d sources ps db → AreWindows db.windows → AreShown d verdicts db.points → IsTable db
+collected_is d sources ps verdicts db lawful written listed few named all is windows shown =
     let order = is.order in
     let rows = map (row_at d.instances) order in
     let number = order_length (length d.instances) order is.path_order.permutation in
@@ -256,4 +256,5 @@ collected_is d sources ps verdicts db lawful written listed few named all is sho
       instances_rise = subst (Rises (λ (a b : DbInstance). bytes_cmp a.path b.path)) (sym is.instances) (rows_rise d.instances lawful.instance_paths order is.path_order);
       points_rise = points_rise d lawful sources written order is.places is.path_order is.are_places listed.0 ps listed.1 named db.points is.points;
       lines = omega (arith, files, instances, many, few, written.few_files, lawful.few_instances);
+      windows = windows;
     }

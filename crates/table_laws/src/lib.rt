@@ -7,7 +7,7 @@
 #![tactic(auto)]
 
 ghost use Rattle.std.specs.Prelude.{◌≤◌, ◌∷◌, [], ℕ, List, All, codes, length};
-ghost use Rattle.coverage_db.specs.Table.{IsTable};
+ghost use Rattle.coverage_db.specs.Table.{AreWindows, IsTable};
 ghost use Rattle.coverage_db.specs.declared.db.Db.{Db};
 ghost use Rattle.point_table.specs.cover_points.Listed.{IsPointList, points_of};
 ghost use Rattle.point_table.specs.cover_points.declared.listing.Points.{Points};
@@ -24,11 +24,11 @@ ghost use Rattle.table_laws.specs.Written.{IsWritten, IsWrittenMachine, IsWritte
 
 pub use point_table::collect;
 
-/// The points of a lawful design that are collected with these verdicts are a table that has a text. Each state machine has
+/// The points of a lawful design that are collected with these verdicts, and windows that rise, are a table that has a text. Each state machine has
 /// names that a text can have, as those that are named by words.
 pub fn table_law()
     ensures { (d : Design) (sources : List (List ℕ)) (ps : Points) (verdicts : List Verdict) (db : Db) → IsLawfulDesign d → IsWritten sources d → AreListed d ps
-        → length (points_of ps) ≤ MOST_POINTS → All IsWrittenMachine ps.machines.items → All (IsWrittenVerdict d) verdicts → IsCollected d sources ps db → AreShown d verdicts db.points → IsTable db }
+        → length (points_of ps) ≤ MOST_POINTS → All IsWrittenMachine ps.machines.items → All (IsWrittenVerdict d) verdicts → IsCollected d sources ps db → AreWindows db.windows → AreShown d verdicts db.points → IsTable db }
 {}
 
 /// The table has a row for each point of the list, which names it.

@@ -13,7 +13,7 @@ use Rattle.vcd_reader.specs.Body.{BodyReading, Said, has_begun, last_said}
 use Rattle.vcd_reader.specs.Reading.{Body, body, fault, after_body_word}
 use Rattle.vcd_reader.specs.Text.{Stands, after, is_alone, is_open, HasFault, behind_a_word, in_a_word, EndsWithFault, in_the_last_word, cut_short}
 use Rattle.vcd_reader.specs.Holding.{IsReading, IsWord, IsSaid, Gives}
-use Rattle.vcd_reader.specs.BodyStanding.{BodyStands, HasSaid, SaysNext, EndsSaying, HasStepped, StepsOn, IsFaultAt}
+use Rattle.vcd_reader.specs.BodyStanding.{BodyStands, HasSaid, SaysNext, EndsSaying, HasStepped, StepsOn, IsBehind, IsBehindAt, IsFaultAt, SaysNow}
 use Rattle.vcd_reader.specs.Wanted.{IsUnwanted, is_wanted, item_by, saying_more}
 use Rattle.vcd_reader.specs.Hearing.{IsPassed, heard, hears, last_saying, said_by}
 use Rattle.vcd_reader.specs.Passing.{Passing}
@@ -151,21 +151,25 @@ space_said f old new text space b says white s reads room codes at word going =
       said = record { items = refl; vars = refl };
     })
 
-pub space_fault : (f : Filter) (old : BodyReader) (text : List ℕ) (space : ℕ) (b : Body) (kept : ReadingRow) (found : DumpFault) → is_white_space space ≡ true → BodyStands old text b → Reads f old (Err found) kept → HasFault (text ++ space ∷ []) found
+-- a fault directly behind the text
+behind_text : (text word : List ℕ) (byte : ℕ) (b : Body) (f : DumpFault) → Stands text (body b) word → HasFault (text ++ byte ∷ []) f → IsBehind (text ++ byte ∷ []) b f
+behind_text text word byte b f stands found = record { before = text; byte = byte; rest = []; now = record { last = b; word = word; stands = stands; items = refl; vars = refl }; split = refl; fault = found }
+
+pub space_fault : (f : Filter) (old : BodyReader) (text : List ℕ) (space : ℕ) (b : Body) (kept : ReadingRow) (found : DumpFault) → is_white_space space ≡ true → BodyStands old text b → Reads f old (Err found) kept → IsBehind (text ++ space ∷ []) b found
 space_fault f old text space b kept found white s reads =
     let e = gives_err f kept found _ (reads b.reading s.word s.reading s.kept) in
-    behind_a_word text s.word [] (body b) (fault found) space s.stands white (read_err old text b s found e) (omega arith)
+    behind_text text s.word space b found s.stands (behind_a_word text s.word [] (body b) (fault found) space s.stands white (read_err old text b s found e) (omega arith))
 
-pub space_no_room : (f : Filter) (old : BodyReader) (text : List ℕ) (space : ℕ) (b : Body) (says : Says) (kept : ReadingRow) (found : DumpFault) → is_white_space space ≡ true → BodyStands old text b → Reads f old (Ok says) kept → 1099511627776 ≤ old.at → found ≡ At DumpTooLong 1099511627776 → HasFault (text ++ space ∷ []) found
+pub space_no_room : (f : Filter) (old : BodyReader) (text : List ℕ) (space : ℕ) (b : Body) (says : Says) (kept : ReadingRow) (found : DumpFault) → is_white_space space ≡ true → BodyStands old text b → Reads f old (Ok says) kept → 1099511627776 ≤ old.at → found ≡ At DumpTooLong 1099511627776 → IsBehind (text ++ space ∷ []) b found
 space_no_room f old text space b says kept found white s reads full is =
     let a = gives_ok f says kept _ (reads b.reading s.word s.reading s.kept) in
     let long = s.at in
-    rw is (behind_a_word text s.word [] (body b) (body (with_said b a.said)) space s.stands white (read_ok old text b s a.said a.is) (omega (arith, full, long)))
+    behind_text text s.word space b found s.stands (rw is (behind_a_word text s.word [] (body b) (body (with_said b a.said)) space s.stands white (read_ok old text b s a.said a.is) (omega (arith, full, long))))
 
-pub push_no_room : (old : BodyReader) (text : List ℕ) (byte : ℕ) (b : Body) (f : DumpFault) → is_white_space byte ≡ false → BodyStands old text b → 1099511627776 ≤ old.at → f ≡ At DumpTooLong 1099511627776 → HasFault (text ++ byte ∷ []) f
+pub push_no_room : (old : BodyReader) (text : List ℕ) (byte : ℕ) (b : Body) (f : DumpFault) → is_white_space byte ≡ false → BodyStands old text b → 1099511627776 ≤ old.at → f ≡ At DumpTooLong 1099511627776 → IsBehind (text ++ byte ∷ []) b f
 push_no_room old text byte b f black s full is =
     let long = s.at in
-    rw is (in_a_word text s.word [] (body b) byte s.stands black (omega (arith, full, long)))
+    behind_text text s.word byte b f s.stands (rw is (in_a_word text s.word [] (body b) byte s.stands black (omega (arith, full, long))))
 
 -- a byte of a word
 pub pushed : (old new : BodyReader) (text : List ℕ) (byte : ℕ) (b : Body) → is_white_space byte ≡ false → (s : BodyStands old text b) → old.at < 1099511627776
@@ -253,23 +257,56 @@ says_then f says earlier reader before text b first later = record {
   };
 }
 
-pub fault_in_piece : (text piece : List ℕ) (place byte : ℕ) (f : DumpFault) → place < length piece → HasFault ((text ++ take place piece) ++ get_or piece place byte ∷ []) f → HasFault (text ++ piece) f
-fault_in_piece text piece place byte f within found =
-    let whole : ((text ++ take place piece) ++ get_or piece place byte ∷ []) ++ drop (place + 1) piece ≡ text ++ piece =
-    ap (λ (t : List ℕ). t ++ drop (place + 1) piece) (one_more text piece place byte within) ∙ append_assoc text (take (place + 1) piece) (drop (place + 1) piece) ∙ ap (λ (t : List ℕ). text ++ t) (take-append-drop (place + 1) piece) in
-    subst (λ (t : List ℕ). HasFault t f) whole (fault_stays ((text ++ take place piece) ++ get_or piece place byte ∷ []) (drop (place + 1) piece) f found)
+-- what stands behind the same said, where nothing more was said
+pub behind_said : (text : List ℕ) (b next m : Body) (f : DumpFault) → next.items ≡ m.items → next.vars ≡ m.vars → IsBehind text next f → IsBehind text m f
+behind_said text b next m f items vars is = record {
+  before = is.before;
+  byte = is.byte;
+  rest = is.rest;
+  now = record { last = is.now.last; word = is.now.word; stands = is.now.stands; items = is.now.items ∙ items; vars = is.now.vars ∙ vars };
+  split = is.split;
+  fault = is.fault;
+}
+
+-- a fault behind what was passed over
+pub passing_fault : (f : Filter) (reader : BodyReader) (before text : List ℕ) (b : Body) (found : DumpFault) (first : Passing f b (SaysNext None reader before)) → IsBehind text first.then.next found → Passing f b (λ m. IsBehind text m found)
+passing_fault f reader before text b found first is = record {
+  passed = first.passed;
+  unheard = first.unheard;
+  then = behind_said text b first.then.next (saying_more b first.passed) found (first.then.said.items ∙ append-nil (b.items ++ first.passed)) first.then.said.vars is;
+}
+
+-- what comes later leaves a fault where it is
+pub behind_stays : (text more : List ℕ) (b : Body) (f : DumpFault) → IsBehind text b f → IsBehind (text ++ more) b f
+behind_stays text more b f is = record {
+  before = is.before;
+  byte = is.byte;
+  rest = is.rest ++ more;
+  now = is.now;
+  split = ap (λ (t : List ℕ). t ++ more) is.split ∙ append_assoc is.before (is.byte ∷ is.rest) more;
+  fault = is.fault;
+}
+
+-- it is the first fault of the text
+pub fault_behind : (text : List ℕ) (b : Body) (f : DumpFault) → IsBehind text b f → HasFault text f
+fault_behind text b f is =
+    subst (λ (t : List ℕ). HasFault t f) (append_assoc is.before (is.byte ∷ []) is.rest ∙ sym is.split) (fault_stays (is.before ++ is.byte ∷ []) is.rest f is.fault)
+
+pub fault_behind_at : (text piece : List ℕ) (b : Body) (f : DumpFault) → IsBehindAt text piece b f → IsFaultAt text piece f
+fault_behind_at text [] b f is = is.1
+fault_behind_at text (byte ∷ piece) b f is = fault_behind (text ++ byte ∷ piece) b f is
 
 pub has_stepped : (says : Item) (used : ℕ) (reader : BodyReader) (text piece : List ℕ) (b : Body) → 0 < length piece → HasStepped says used reader text piece b → StepsOn says used reader text piece b
 has_stepped says used reader text [] b some h = absurd (omega arith)
 has_stepped says used reader text (byte ∷ piece) b some h = h
 
-pub fault_at : (text piece : List ℕ) (f : DumpFault) → 0 < length piece → HasFault (text ++ piece) f → IsFaultAt text piece f
-fault_at text [] f some h = absurd (omega arith)
-fault_at text (byte ∷ piece) f some h = h
+pub behind_at : (text piece : List ℕ) (b : Body) (f : DumpFault) → 0 < length piece → IsBehind (text ++ piece) b f → IsBehindAt text piece b f
+behind_at text [] b f some is = absurd (omega arith)
+behind_at text (byte ∷ piece) b f some is = is
 
-pub fault_at_end : (text piece : List ℕ) (f : DumpFault) → length piece ≡ 0 → EndsWithFault text f → IsFaultAt text piece f
-fault_at_end text [] f none h = h
-fault_at_end text (byte ∷ piece) f none h = absurd (omega arith)
+pub behind_at_end : (reader : BodyReader) (text piece : List ℕ) (b : Body) (f : DumpFault) → length piece ≡ 0 → BodyStands reader text b → EndsWithFault text f → IsBehindAt text piece b f
+behind_at_end reader text [] b f none s ends = (record { last = b; word = s.word; stands = s.stands; items = refl; vars = refl }, ends)
+behind_at_end reader text (byte ∷ piece) b f none s ends = absurd (omega arith)
 
 -- what the last word says
 pub last_steps : (says : Says) (reader : BodyReader) (text piece : List ℕ) (b : Body) → length piece ≡ 0 → reader.is_at_end ≡ true → EndsSaying (said_by says reader.reading) text b

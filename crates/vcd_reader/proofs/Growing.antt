@@ -26,7 +26,7 @@ pub goes_on_same : (b : Body) → GoesOn b b
 goes_on_same b = record { vars = refl; more = []; items = sym (append-nil b.items) }
 
 module _ (whole : Body) where
-  grows : (b : Body) (words : List Word) → meaning_after (body b) words ≡ body whole → GoesOn b whole
+  pub grows : (b : Body) (words : List Word) → meaning_after (body b) words ≡ body whole → GoesOn b whole
   grows b [] e = let same : b ≡ whole = cc in record { vars = ap (λ (x : Body). x.vars) (sym same); more = []; items = ap (λ (x : Body). x.items) (sym same) ∙ sym (append-nil b.items) }
   grows b (word ∷ words) e = go (nat_lt (room_of (body b)) (word.at + length word.bytes)) (next_word b.codes b.reading word) (λ next. grows next words) e
     where

@@ -19,4 +19,5 @@ pub mod FaultNames
 pub mod RisingTimes
 pub mod Growing
 pub mod OneHeader
+pub mod BehindFaults
 mod ElementLemmas

@@ -54,7 +54,7 @@ no_rest [] rest e = sym e
 no_rest (byte ∷ front) rest e = cc
 
 -- a front of a text with one byte more is all of it, or a front of the text
-shorter : (text front rest : List ℕ) (byte : ℕ) → text ++ byte ∷ [] ≡ front ++ rest → (rest ≡ []) ⊎ ((more : List ℕ) × (text ≡ front ++ more))
+pub shorter : (text front rest : List ℕ) (byte : ℕ) → text ++ byte ∷ [] ≡ front ++ rest → (rest ≡ []) ⊎ ((more : List ℕ) × (text ≡ front ++ more))
 shorter [] [] rest byte e = inr ([], refl)
 shorter [] (first ∷ front) rest byte e = let tails : [] ≡ front ++ rest = cc in inl (no_rest front rest tails)
 shorter (t ∷ text) [] rest byte e = inr (t ∷ text, refl)
@@ -67,7 +67,7 @@ shorter (t ∷ text) (first ∷ front) rest byte e =
     ]
 
 -- of two fronts of a text one is a front of the other
-two_fronts : (a b c d : List ℕ) → a ++ b ≡ c ++ d → ((more : List ℕ) × (c ≡ a ++ more)) ⊎ ((more : List ℕ) × (a ≡ c ++ more))
+pub two_fronts : (a b c d : List ℕ) → a ++ b ≡ c ++ d → ((more : List ℕ) × (c ≡ a ++ more)) ⊎ ((more : List ℕ) × (a ≡ c ++ more))
 two_fronts [] b c d e = inl (c, refl)
 two_fronts (x ∷ a) b [] d e = inr (x ∷ a, refl)
 two_fronts (x ∷ a) b (y ∷ c) d e =
@@ -79,7 +79,7 @@ two_fronts (x ∷ a) b (y ∷ c) d e =
     ]
 
 -- a front that says a body is the front of a longer one
-begins_in : (text more : List ℕ) (b : Body) (begun : BeginsAs text b) (front : List ℕ) → front ≡ begun.front ++ more → BeginsAs front b
+pub begins_in : (text more : List ℕ) (b : Body) (begun : BeginsAs text b) (front : List ℕ) → front ≡ begun.front ++ more → BeginsAs front b
 begins_in text more b begun front e = record { front = begun.front; rest = more; word = begun.word; split = e; stands = begun.stands }
 
 -- a fault that stands directly behind a header that goes on

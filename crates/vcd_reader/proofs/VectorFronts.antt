@@ -8,12 +8,11 @@ use Rattle.vcd_reader.specs.Words.{is_white_space, IsBlack}
 use Rattle.vcd_reader.specs.Values.{is_digit}
 use Rattle.vcd_reader.specs.Body.{change}
 use Rattle.vcd_reader.specs.Reading.{Body}
-use Rattle.vcd_reader.specs.Text.{HasFault}
 use Rattle.vcd_reader.specs.Holding.{GivesChange}
 use Rattle.vcd_reader.specs.Hearing.{change_says, said_by}
 use Rattle.vcd_reader.specs.Passing.{Passing}
 use Rattle.vcd_reader.specs.Vectors.{is_vector_letter, IsVectorFront}
-use Rattle.vcd_reader.specs.BodyStanding.{BodyStands, SaysNext}
+use Rattle.vcd_reader.specs.BodyStanding.{BodyStands, IsBehind, SaysNext}
 use Rattle.vcd_reader.specs.declared.body_reader.BodyReader.{BodyReader}
 use Rattle.vcd_reader.specs.declared.word.Word.TheVariants as word_row
 use Rattle.vcd_reader.specs.declared.filter.Filter.{Filter}
@@ -22,7 +21,7 @@ use Rattle.vcd_reader.specs.declared.reading.Change.{Change}
 use Rattle.vcd_reader.specs.declared.says.Says.{Says}
 use Rattle.vcd_reader.specs.declared.vector.VectorFront.{VectorFront}
 use Rattle.vcd_reader.specs.declared.fault.DumpFault.{DumpFault}
-use Rattle.vcd_reader.proofs.TextLemmas.{fault_stays}
+use Rattle.vcd_reader.proofs.BodyStanding.{behind_stays}
 use Rattle.vcd_reader.proofs.WholeWords.{IsFront, fault_in_rest, further, is_front}
 use Rattle.vcd_reader.proofs.VectorWords.{vector_fault, vector_said}
 
@@ -108,7 +107,7 @@ module _ (f : Filter) (old : BodyReader) (text piece : List ℕ) (b : Body) (fro
       new is_heard at (omega (arith, at_is, n)) gave codes (omega (arith, moved, n, m)) same going last kept))
 
   pub piece_fault : (kept : Change) (found : DumpFault) (digit_bytes code_bytes : List ℕ) (at : ℕ) → digit_bytes ≡ drop 1 piece → code_bytes ≡ code → at ≡ old.at + front.digits + 2
-      → GivesChange f (Err found) kept (change old.codes (take front.digits digit_bytes) old.at code_bytes at) → HasFault (text ++ piece) found
+      → GivesChange f (Err found) kept (change old.codes (take front.digits digit_bytes) old.at code_bytes at) → IsBehind (text ++ piece) b found
   piece_fault kept found digit_bytes code_bytes at digits_are code_is at_is gives =
       let n = word_long in
       let m = code_long in
@@ -117,8 +116,8 @@ module _ (f : Filter) (old : BodyReader) (text piece : List ℕ) (b : Body) (fro
       (subst (λ (bytes : List ℕ). GivesChange f (Err found) kept (change old.codes (take front.digits bytes) old.at code_bytes at)) digits_are gives) in
       let tail = code_front piece front is in
       let used = front.digits + 2 + (front.code + 1) in
-      let at_front : HasFault (text ++ take used piece) found = subst (λ (t : List ℕ). HasFault t found) whole_is
+      let at_front : IsBehind (text ++ take used piece) b found = subst (λ (t : List ℕ). IsBehind t b found) whole_is
       (vector_fault f old text word code (get_or piece 0 0) (get_or (drop front.digits (drop 1 piece)) 0 0) (get_or (drop (front.digits + 2) piece) front.code 0) b is.letter (omega (arith, n, is.words.some)) is.words.digits
       (letter_black (get_or piece 0 0) word is.letter (digits_black word is.words.digits)) is.words.code.space (omega (arith, m, is.words.code_some)) tail.black tail.white (omega (arith, n, m, room)) none rest s
       kept found at (omega (arith, at_is, n)) gave) in
-      fault_in_rest text piece used found (fault_stays (text ++ take used piece) (drop used piece) found at_front)
+      fault_in_rest text piece used b found (behind_stays (text ++ take used piece) (drop used piece) b found at_front)

@@ -11,12 +11,12 @@ use Rattle.vcd_reader.specs.Answer.{Answer}
 use Rattle.vcd_reader.specs.Codes.{Code}
 use Rattle.vcd_reader.specs.Body.{Begun, BodyReading, nothing, digits, passed, comment, behind_letter, begins, change, last_said, saying}
 use Rattle.vcd_reader.specs.Reading.{Body, body, fault, after_body_word}
-use Rattle.vcd_reader.specs.Text.{Stands, after, HasFault, behind_a_word}
+use Rattle.vcd_reader.specs.Text.{Stands, after, behind_a_word}
 use Rattle.vcd_reader.specs.Holding.{GivesChange, IsBegun, IsWord}
 use Rattle.vcd_reader.specs.Hearing.{change_by, change_says, heard, said_by}
 use Rattle.vcd_reader.specs.Passing.{Passing}
 use Rattle.vcd_reader.specs.Vectors.{is_vector_letter}
-use Rattle.vcd_reader.specs.BodyStanding.{BodyStands, SaysNext}
+use Rattle.vcd_reader.specs.BodyStanding.{BodyStands, IsBehind, SaysNext}
 use Rattle.vcd_reader.specs.declared.body_reader.BodyReader.{BodyReader}
 use Rattle.vcd_reader.specs.declared.word.Word.TheVariants as word_row
 use Rattle.vcd_reader.specs.declared.entry.Entry.{Entry}
@@ -142,8 +142,15 @@ module _ (f : Filter) (old : BodyReader) (text word code : List ℕ) (letter spa
         said = record { items = ap (λ (items : List Entry). items ++ option_to_list a.says) (append-nil b.items); vars = refl };
       })
 
-  pub vector_fault : (kept : Change) (found : DumpFault) (at : ℕ) → at ≡ old.at + length word + 2 → GivesChange f (Err found) kept (change old.codes word old.at code at) → HasFault (middle ++ (code ++ end ∷ [])) found
+  pub vector_fault : (kept : Change) (found : DumpFault) (at : ℕ) → at ≡ old.at + length word + 2 → GivesChange f (Err found) kept (change old.codes word old.at code at) → IsBehind (middle ++ (code ++ end ∷ [])) b found
   vector_fault kept found at is gives =
       let e = refused f kept found _ (subst (λ answer. GivesChange f (Err found) kept answer) (asked at is) gives) in
       let means : after (body begun) (length (middle ++ code)) code ≡ fault found = code_means ∙ ap (λ (answer : Answer (Option Entry)). after_body_word begun (saying b.reading.last answer)) e in
-      subst (λ (t : List ℕ). HasFault t found) (append_assoc middle code (end ∷ [])) (behind_a_word (middle ++ code) code [] (body begun) (fault found) end code_stands code_white means (omega arith))
+      record {
+        before = middle ++ code;
+        byte = end;
+        rest = [];
+        now = record { last = begun; word = code; stands = code_stands; items = append-nil b.items; vars = refl };
+        split = sym (append_assoc middle code (end ∷ []));
+        fault = behind_a_word (middle ++ code) code [] (body begun) (fault found) end code_stands code_white means (omega arith);
+      }

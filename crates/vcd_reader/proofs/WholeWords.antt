@@ -8,9 +8,9 @@ use Rattle.vcd_reader.specs.Words.{is_white_space, IsBlack}
 use Rattle.vcd_reader.specs.Codes.{Code}
 use Rattle.vcd_reader.specs.Body.{BodyReading, has_begun, last_said}
 use Rattle.vcd_reader.specs.Reading.{Body, Meaning, body, fault, room_of, after_body_word}
-use Rattle.vcd_reader.specs.Text.{Stands, after, HasFault, behind_a_word}
+use Rattle.vcd_reader.specs.Text.{Stands, after, behind_a_word}
 use Rattle.vcd_reader.specs.Holding.{IsReading, IsWord, Gives}
-use Rattle.vcd_reader.specs.BodyStanding.{BodyStands, SaysNext}
+use Rattle.vcd_reader.specs.BodyStanding.{BodyStands, IsBehind, SaysNext}
 use Rattle.vcd_reader.specs.declared.body_reader.BodyReader.{BodyReader}
 use Rattle.vcd_reader.specs.declared.word.Word.TheVariants as word_row
 use Rattle.vcd_reader.specs.declared.filter.Filter.{Filter}
@@ -19,8 +19,8 @@ use Rattle.vcd_reader.specs.declared.says.Says.{Says}
 use Rattle.vcd_reader.specs.Hearing.{said_by}
 use Rattle.vcd_reader.specs.Passing.{Passing}
 use Rattle.vcd_reader.specs.declared.fault.DumpFault.{DumpFault}
-use Rattle.vcd_reader.proofs.TextLemmas.{stands_behind, stands_byte, fault_stays, black-first}
-use Rattle.vcd_reader.proofs.BodyStanding.{gives_ok, gives_err, last_said-at, after_body, passing_next, with_said}
+use Rattle.vcd_reader.proofs.TextLemmas.{stands_behind, stands_byte, black-first}
+use Rattle.vcd_reader.proofs.BodyStanding.{behind_stays, gives_ok, gives_err, last_said-at, after_body, passing_next, with_said}
 
 -- a word that goes on with bytes that are no white space
 pub stands_word : (text word more : List ℕ) (means : Meaning) → Stands text means word → IsBlack more → length text + length more ≤ room_of means → Stands (text ++ more) means (word ++ more)
@@ -79,12 +79,19 @@ word_said f old new text word space b says reads room codes at same going none b
     }))
 
 pub word_fault : (f : Filter) (old : BodyReader) (text word : List ℕ) (space : ℕ) (b : Body) (kept : ReadingRow) (found : DumpFault) → ReadsWhole f old word (Err found) kept → old.at + length word < 1099511627776
-    → old.word ≡ word_row.None → IsBlack word → is_white_space space ≡ true → BodyStands old text b → HasFault (text ++ (word ++ space ∷ [])) found
+    → old.word ≡ word_row.None → IsBlack word → is_white_space space ≡ true → BodyStands old text b → IsBehind (text ++ (word ++ space ∷ [])) b found
 word_fault f old text word space b kept found reads room none black white s =
     let e = gives_err f kept found _ (reads b.reading s.reading) in
     let whole = stands_whole old text word b none black s room in
     let means : after (body b) (length (text ++ word)) word ≡ fault found = read_whole old text word b s whole ∙ ap (after_body_word b) e in
-    subst (λ (t : List ℕ). HasFault t found) (append_assoc text word (space ∷ [])) (behind_a_word (text ++ word) word [] (body b) (fault found) space whole white means (omega arith))
+    record {
+      before = text ++ word;
+      byte = space;
+      rest = [];
+      now = record { last = b; word = word; stands = whole; items = refl; vars = refl };
+      split = sym (append_assoc text word (space ∷ []));
+      fault = behind_a_word (text ++ word) word [] (body b) (fault found) space whole white means (omega arith);
+    }
 
 -- ---- a word of a piece
 
@@ -112,20 +119,20 @@ is_front piece count is =
     }
 
 -- a fault in the front of a piece is one of the piece
-pub fault_in_front : (text piece : List ℕ) (count : ℕ) (f : DumpFault) → IsFront piece count → HasFault (text ++ (take count piece ++ get_or piece count 0 ∷ [])) f → HasFault (text ++ piece) f
-fault_in_front text piece count f front found =
-    let read : HasFault (text ++ take (count + 1) piece) f = subst (λ (t : List ℕ). HasFault (text ++ t) f) front.is found in
-    subst (λ (t : List ℕ). HasFault t f) (append_assoc text (take (count + 1) piece) (drop (count + 1) piece) ∙ ap (λ (t : List ℕ). text ++ t) (take-append-drop (count + 1) piece)) (fault_stays (text ++ take (count + 1) piece) (drop (count + 1) piece) f read)
+pub fault_in_front : (text piece : List ℕ) (count : ℕ) (b : Body) (f : DumpFault) → IsFront piece count → IsBehind (text ++ (take count piece ++ get_or piece count 0 ∷ [])) b f → IsBehind (text ++ piece) b f
+fault_in_front text piece count b f front found =
+    let read : IsBehind (text ++ take (count + 1) piece) b f = subst (λ (t : List ℕ). IsBehind (text ++ t) b f) front.is found in
+    subst (λ (t : List ℕ). IsBehind t b f) (append_assoc text (take (count + 1) piece) (drop (count + 1) piece) ∙ ap (λ (t : List ℕ). text ++ t) (take-append-drop (count + 1) piece)) (behind_stays (text ++ take (count + 1) piece) (drop (count + 1) piece) b f read)
 
 -- a fault in the first byte of a piece is one of the piece
-pub fault_of_byte : (text piece : List ℕ) (byte : ℕ) (f : DumpFault) → 0 < length piece → HasFault (text ++ get_or piece 0 byte ∷ []) f → HasFault (text ++ piece) f
-fault_of_byte text [] byte f some found = absurd (omega (arith, some))
-fault_of_byte text (first ∷ piece) byte f some found = subst (λ (t : List ℕ). HasFault t f) (append_assoc text (first ∷ []) piece) (fault_stays (text ++ first ∷ []) piece f found)
+pub fault_of_byte : (text piece : List ℕ) (byte : ℕ) (b : Body) (f : DumpFault) → 0 < length piece → IsBehind (text ++ get_or piece 0 byte ∷ []) b f → IsBehind (text ++ piece) b f
+fault_of_byte text [] byte b f some found = absurd (omega (arith, some))
+fault_of_byte text (first ∷ piece) byte b f some found = subst (λ (t : List ℕ). IsBehind t b f) (append_assoc text (first ∷ []) piece) (behind_stays (text ++ first ∷ []) piece b f found)
 
 -- what comes after the front of a piece belongs to the piece
 pub further : (text piece : List ℕ) (used more : ℕ) → (text ++ take used piece) ++ take more (drop used piece) ≡ text ++ take (used + more) piece
 further text piece used more = append_assoc text (take used piece) (take more (drop used piece)) ∙ ap (λ (t : List ℕ). text ++ t) (sym (take-add used more piece))
 
 -- a fault in what comes after the front of a piece is one of the piece
-pub fault_in_rest : (text piece : List ℕ) (used : ℕ) (f : DumpFault) → HasFault ((text ++ take used piece) ++ drop used piece) f → HasFault (text ++ piece) f
-fault_in_rest text piece used f found = subst (λ (t : List ℕ). HasFault t f) (append_assoc text (take used piece) (drop used piece) ∙ ap (λ (t : List ℕ). text ++ t) (take-append-drop used piece)) found
+pub fault_in_rest : (text piece : List ℕ) (used : ℕ) (b : Body) (f : DumpFault) → IsBehind ((text ++ take used piece) ++ drop used piece) b f → IsBehind (text ++ piece) b f
+fault_in_rest text piece used b f found = subst (λ (t : List ℕ). IsBehind t b f) (append_assoc text (take used piece) (drop used piece) ∙ ap (λ (t : List ℕ). text ++ t) (take-append-drop used piece)) found

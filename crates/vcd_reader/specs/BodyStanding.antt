@@ -63,6 +63,28 @@ HasStepped (item.Value code value) used reader text piece b = HasEntry (entry.Va
 HasStepped item.More used reader text piece b = IsUsedUp used reader text piece b
 HasStepped item.End used reader text piece b = ⊥
 
+-- what the text so far says is what this body has said
+pub record SaysNow (text : List ℕ) (b : Body) : Type 0 where
+  pub last : Body
+  pub word : List ℕ
+  pub stands : Stands text (body last) word
+  pub items : last.items ≡ b.items
+  pub vars : last.vars ≡ b.vars
+
+-- the first fault of the text is directly behind a place up to which the text says what this body has said, and no more
+pub record IsBehind (text : List ℕ) (b : Body) (f : DumpFault) : Type 0 where
+  pub before : List ℕ
+  pub byte : ℕ
+  pub rest : List ℕ
+  pub now : SaysNow before b
+  pub split : text ≡ before ++ byte ∷ rest
+  pub fault : HasFault (before ++ byte ∷ []) f
+
+-- the same of a text and the next piece, of which an empty one is the end
+abbrev pub IsBehindAt : List ℕ → List ℕ → Body → DumpFault → Type 0
+IsBehindAt text [] b f = SaysNow text b × EndsWithFault text f
+IsBehindAt text (byte ∷ piece) b f = IsBehind (text ++ byte ∷ piece) b f
+
 -- the first fault of a text and the next piece, of which an empty one is the end
 abbrev pub IsFaultAt : List ℕ → List ℕ → DumpFault → Type 0
 IsFaultAt text [] f = EndsWithFault text f

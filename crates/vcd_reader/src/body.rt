@@ -26,7 +26,7 @@ impl Drop for Body {
 
 impl Body {
     ghost use Rattle.vcd_reader.specs.Pieces.{BodyHasRead, BodyHasEnded, BodyHasFailed, StepsTo, IsFaultAt};
-    ghost use Rattle.vcd_reader.specs.WantedPieces.{HearsTo, kept_value};
+    ghost use Rattle.vcd_reader.specs.WantedPieces.{FailsTo, HearsTo, kept_value};
 
     /// What the dump says next, and how many bytes of the piece were used for it. An empty piece is the end of the
     /// input. After a fault the same fault is answered for ever.
@@ -53,8 +53,8 @@ impl Body {
     pub fn next_of(&mut self, piece: &[u8], wanted: &[bool]) -> Result<Heard, DumpFault>
         // It is what `next` says after changes of other codes.
         ensures ok { IfOk result (λ heard. (text : List ℕ) (b : SpecBody) → BodyHasRead self.old text b → HearsTo wanted.now heard.saying heard.used self.new text piece.now b) }
-        // A fault is the first one, also where it is in a change of another code.
-        ensures fault { IfErr result (λ fault. (text : List ℕ) (b : SpecBody) → BodyHasRead self.old text b → IsFaultAt text piece.now fault) }
+        // A fault is the first one, also where it is in a change of another code. Only changes of other codes come before it.
+        ensures fault { IfErr result (λ fault. (text : List ℕ) (b : SpecBody) → BodyHasRead self.old text b → FailsTo wanted.now text piece.now b fault) }
         ensures ended { (text : List ℕ) (b : SpecBody) → BodyHasEnded self.old text b → (result ≡ Ok (record { saying = Saying.End; used = length piece.now })) × BodyHasEnded self.new text b }
         ensures failed { IfErr result (λ fault. BodyHasFailed self.new fault) }
         ensures again { (fault : SpecFault) → BodyHasFailed self.old fault → result ≡ Err fault }

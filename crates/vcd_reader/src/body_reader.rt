@@ -4,7 +4,7 @@ ghost use Rattle.vcd_reader.specs.Words.{is_white_space as is_space, IsBlack};
 ghost use Rattle.vcd_reader.specs.declared.word.Word.TheVariants as word_row;
 ghost use Rattle.vcd_reader.specs.Reading.{Body as SpecBody, body};
 ghost use Rattle.vcd_reader.specs.Body.{nothing};
-ghost use Rattle.vcd_reader.specs.Text.{Stands, HasFault, EndsWithFault, is_alone, is_lone, is_one_digit};
+ghost use Rattle.vcd_reader.specs.Text.{Stands, EndsWithFault, is_alone, is_lone, is_one_digit};
 ghost use Rattle.vcd_reader.specs.Holding.{IsWord, IsSpelling};
 ghost use Rattle.vcd_reader.specs.Vectors.{IsVectorFront};
 ghost use Rattle.vcd_reader.specs.declared.reading.Begun.TheVariants as begun_row;
@@ -52,7 +52,7 @@ pub(crate) struct BodyReader {
 }
 
 impl BodyReader {
-    ghost use Rattle.vcd_reader.specs.BodyStanding.{BodyStands, BodyEnded, SaysNext, HasStepped, EndsSaying, StepsOn, IsFaultAt};
+    ghost use Rattle.vcd_reader.specs.BodyStanding.{BodyStands, BodyEnded, SaysNext, HasStepped, EndsSaying, StepsOn, IsBehind, IsBehindAt};
 
     /// The body after a header of `at` bytes.
     pub(crate) fn new(codes: Codes, at: u64, is_at_end: bool) -> Self
@@ -77,7 +77,7 @@ impl BodyReader {
     /// What the dump says next that is heard.
     pub(crate) fn step(&mut self, piece: &[u8], filter: Filter<'_>) -> Result<Heard, DumpFault>
         ensures ok { IfOk result (λ heard. (text : List ℕ) (b : SpecBody) → BodyStands self.old text b → Passing filter.entry b (StepsOn (item_by heard.saying self.new.reading.change.value) heard.used self.new text piece.now)) }
-        ensures fault { IfErr result (λ fault. (text : List ℕ) (b : SpecBody) → BodyStands self.old text b → IsFaultAt text piece.now fault) }
+        ensures fault { IfErr result (λ fault. (text : List ℕ) (b : SpecBody) → BodyStands self.old text b → Passing filter.entry b (λ m. IsBehindAt text piece.now m fault)) }
         ensures ended { (text : List ℕ) (b : SpecBody) → BodyEnded self.old text b → (result ≡ Ok (record { saying = Saying.End; used = length piece.now })) × BodyEnded self.new text b }
     {
         if self.is_at_end {
@@ -120,7 +120,7 @@ impl BodyReader {
     fn read(&mut self, piece: &[u8], filter: Filter<'_>) -> Result<Heard, DumpFault>
         requires { 0 < length piece.now }
         ensures ok { IfOk result (λ heard. (text : List ℕ) (b : SpecBody) → BodyStands self.old text b → Passing filter.entry b (HasStepped (item_by heard.saying self.new.reading.change.value) heard.used self.new text piece.now)) }
-        ensures fault { IfErr result (λ fault. (text : List ℕ) (b : SpecBody) → BodyStands self.old text b → HasFault (text ++ piece.now) fault) }
+        ensures fault { IfErr result (λ fault. (text : List ℕ) (b : SpecBody) → BodyStands self.old text b → Passing filter.entry b (λ m. IsBehind (text ++ piece.now) m fault)) }
     {
         let mut used = 0;
         while used < piece.len() {
@@ -156,7 +156,7 @@ impl BodyReader {
         ensures some { IfOk result (λ front. 1 ≤ front.used) }
         ensures within { IfOk result (λ front. front.used ≤ length piece.now) }
         ensures ok { IfOk result (λ front. (text : List ℕ) (b : SpecBody) → BodyStands self.old text b → Passing filter.entry b (SaysNext (said_by front.says self.new.reading) self.new (text ++ take front.used piece.now))) }
-        ensures fault { IfErr result (λ fault. (text : List ℕ) (b : SpecBody) → BodyStands self.old text b → HasFault (text ++ piece.now) fault) }
+        ensures fault { IfErr result (λ fault. (text : List ℕ) (b : SpecBody) → BodyStands self.old text b → IsBehind (text ++ piece.now) b fault) }
     {
         match self.whole_vector(piece) {
             Some(front) => self.read_vector(piece, front, filter),
@@ -197,7 +197,7 @@ impl BodyReader {
         ensures some { IfOk result (λ read. 1 ≤ read.used) }
         ensures within { IfOk result (λ read. read.used ≤ length piece.now) }
         ensures ok { IfOk result (λ read. (text : List ℕ) (b : SpecBody) → self.old.word ≡ word_row.None → self.old.reading.begun ≡ begun_row.Nothing → BodyStands self.old text b → Passing filter.entry b (SaysNext (said_by read.says self.new.reading) self.new (text ++ take read.used piece.now))) }
-        ensures fault { IfErr result (λ fault. (text : List ℕ) (b : SpecBody) → self.old.word ≡ word_row.None → self.old.reading.begun ≡ begun_row.Nothing → BodyStands self.old text b → HasFault (text ++ piece.now) fault) }
+        ensures fault { IfErr result (λ fault. (text : List ℕ) (b : SpecBody) → self.old.word ≡ word_row.None → self.old.reading.begun ≡ begun_row.Nothing → BodyStands self.old text b → IsBehind (text ++ piece.now) b fault) }
     {
         let VectorFront { digits, code } = front;
         let (_, after_letter) = piece.split_at(1);
@@ -230,7 +230,7 @@ impl BodyReader {
         ensures some { IfOk result (λ front. 1 ≤ front.used) }
         ensures within { IfOk result (λ front. front.used ≤ length piece.now) }
         ensures ok { IfOk result (λ front. (text : List ℕ) (b : SpecBody) → BodyStands self.old text b → Passing filter.entry b (SaysNext (said_by front.says self.new.reading) self.new (text ++ take front.used piece.now))) }
-        ensures fault { IfErr result (λ fault. (text : List ℕ) (b : SpecBody) → BodyStands self.old text b → HasFault (text ++ piece.now) fault) }
+        ensures fault { IfErr result (λ fault. (text : List ℕ) (b : SpecBody) → BodyStands self.old text b → IsBehind (text ++ piece.now) b fault) }
     {
         match self.whole_word(piece) {
             Some(length) => {
@@ -271,7 +271,7 @@ impl BodyReader {
     fn read_word(&mut self, word: &[u8], filter: Filter<'_>) -> Result<Says, DumpFault>
         requires { self.old.at + length word.now < 1099511627776 }
         ensures ok { IfOk result (λ says. (text : List ℕ) (space : ℕ) (b : SpecBody) → self.old.word ≡ word_row.None → IsBlack word.now → is_space space ≡ true → BodyStands self.old text b → Passing filter.entry b (SaysNext (said_by says self.new.reading) self.new (text ++ (word.now ++ space ∷ [])))) }
-        ensures fault { IfErr result (λ fault. (text : List ℕ) (space : ℕ) (b : SpecBody) → self.old.word ≡ word_row.None → IsBlack word.now → is_space space ≡ true → BodyStands self.old text b → HasFault (text ++ (word.now ++ space ∷ [])) fault) }
+        ensures fault { IfErr result (λ fault. (text : List ℕ) (space : ℕ) (b : SpecBody) → self.old.word ≡ word_row.None → IsBlack word.now → is_space space ≡ true → BodyStands self.old text b → IsBehind (text ++ (word.now ++ space ∷ [])) b fault) }
     {
         let says = read_whole(&self.codes, filter, &mut self.reading, word, self.at)?;
         self.at += word.len() as u64 + 1;
@@ -282,7 +282,7 @@ impl BodyReader {
     #[cold]
     fn read_byte(&mut self, byte: u8, filter: Filter<'_>) -> Result<Says, DumpFault>
         ensures ok { IfOk result (λ says. (text : List ℕ) (b : SpecBody) → BodyStands self.old text b → Passing filter.entry b (SaysNext (said_by says self.new.reading) self.new (text ++ byte ∷ []))) }
-        ensures fault { IfErr result (λ fault. (text : List ℕ) (b : SpecBody) → BodyStands self.old text b → HasFault (text ++ byte ∷ []) fault) }
+        ensures fault { IfErr result (λ fault. (text : List ℕ) (b : SpecBody) → BodyStands self.old text b → IsBehind (text ++ byte ∷ []) b fault) }
     {
         if is_white_space(byte) {
             self.read_space(filter)
@@ -295,7 +295,7 @@ impl BodyReader {
     /// Reads a byte of white space, and gives what the word says that ends before it.
     fn read_space(&mut self, filter: Filter<'_>) -> Result<Says, DumpFault>
         ensures ok { IfOk result (λ says. (text : List ℕ) (space : ℕ) (b : SpecBody) → is_space space ≡ true → BodyStands self.old text b → Passing filter.entry b (SaysNext (said_by says self.new.reading) self.new (text ++ space ∷ []))) }
-        ensures fault { IfErr result (λ fault. (text : List ℕ) (space : ℕ) (b : SpecBody) → is_space space ≡ true → BodyStands self.old text b → HasFault (text ++ space ∷ []) fault) }
+        ensures fault { IfErr result (λ fault. (text : List ℕ) (space : ℕ) (b : SpecBody) → is_space space ≡ true → BodyStands self.old text b → IsBehind (text ++ space ∷ []) b fault) }
     {
         let says = read_kept(
             &self.codes,
@@ -313,7 +313,7 @@ impl BodyReader {
     /// Reads a byte of a word.
     fn push(&mut self, byte: u8) -> Result<(), DumpFault>
         ensures ok { OnOk result ((text : List ℕ) (b : SpecBody) → is_space byte ≡ false → BodyStands self.old text b → BodyStands self.new (text ++ byte ∷ []) b) }
-        ensures fault { IfErr result (λ fault. (text : List ℕ) (b : SpecBody) → is_space byte ≡ false → BodyStands self.old text b → HasFault (text ++ byte ∷ []) fault) }
+        ensures fault { IfErr result (λ fault. (text : List ℕ) (b : SpecBody) → is_space byte ≡ false → BodyStands self.old text b → IsBehind (text ++ byte ∷ []) b fault) }
     {
         check_room(self.at)?;
         let start = self.word.start(self.word_at, self.at);

@@ -7,7 +7,7 @@ use Rattle.cov_host.specs.declared.place.Place.{Place}
 use Rattle.design_model.specs.Design.{In}
 use Rattle.design_model.specs.Tree.{Process}
 use Rattle.flat_design.specs.Bodies.{met_fault, met_faults}
-use Rattle.flat_design.specs.Connections.{Joined, as_alias, by_assignment, not_joined, joining, JoinedPort, joined_ports, port_faults, given_faults, overrides, override_faults, are_sound_overrides}
+use Rattle.flat_design.specs.Connections.{Joined, as_alias, by_assignment, not_joined, joining, JoinedPort, joined_ports, connections_faults, overrides, override_faults, are_sound_overrides}
 use Rattle.flat_design.specs.Declarations.{Override}
 use Rattle.flat_design.specs.Fault.{fault_at}
 use Rattle.flat_design.specs.declared.fault.ElabKind.TheVariants.{Recursion}
@@ -78,7 +78,7 @@ module _ (P : Place → Type 0) (most : ℕ) where
           inner = instantiation c p m os o js
 
           at : Sofar
-          at = meet (met_faults (given_faults k.of_module m.ports o.given ++ flat_map (port_faults c.scope) js)) st
+          at = meet (met_faults (connections_faults c.scope os m k.of_module o.given)) st
 
           by_declared : (b : Bool) → HaveParts (if b then replaced child base c p inner js at else st)
           by_declared true = ports_parts c p (context base inner at).scope js (child inner at) (kid inner at m_in h)

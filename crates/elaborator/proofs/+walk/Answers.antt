@@ -10,7 +10,7 @@ use Rattle.verilog_tree.specs.declared.item.Given.{Given as CodeGiven}
 use Rattle.verilog_tree.specs.declared.item.Named.{Named}
 use Rattle.verilog_tree.specs.View.{givens_view, item_view, items_view, module_view, modules_view, one_view, ones_view}
 use Rattle.flat_design.specs.Bodies.{met_fault, met_faults}
-use Rattle.flat_design.specs.Connections.{given_faults, joined_ports, joining, port_faults}
+use Rattle.flat_design.specs.Connections.{connections_faults, joined_ports, joining}
 use Rattle.flat_design.specs.Fault.{Fault, limit_fault}
 use Rattle.flat_design.specs.Flat.{instance, is_same_place, join_ports}
 use Rattle.flat_design.specs.Instances.{Sofar, context, meet}
@@ -38,8 +38,7 @@ use Rattle.elaborator.proofs.+walk.Goals as goal
 -- the faults of the connections of an instance
 abbrev faults_of : Bindings → Named → InstancesOf → List CodeGiven → List Fault
 faults_of scope label of cs =
-    let m : Module = module_view of.module.now in
-    given_faults label m.ports (givens_view cs) ++ flat_map (port_faults (binding_of scope)) (joined_ports (overrides_view of.overrides.items) m label (givens_view cs))
+    connections_faults (binding_of scope) (overrides_view of.overrides.items) (module_view of.module.now) label (givens_view cs)
 
 pub items::walk_items-loop-item-init : goal.items::walk_items-loop-item-init
 items::walk_items-loop-item-init t c = record { goes = λ later others goes. goes; scope = refl; keeps = keeps_still c.args.walk.now c.requires.kept }
@@ -213,7 +212,7 @@ instances::walk_one-returns-in-Some t c =
     one_goes ms c.args.depth given g p x m os o inner js fs
     (λ b i. ap (λ ds. list_any (λ d. bytes_eq d.name.name o.name.name && is_same_place d.name.place o.name.place) ds) (sym c.requires.declared) ∙ sym c.is_declared_here.ensures ∙ c.if-not-is_declared_here.false)
     (c.in_ok-found.ensures.ports ∙ ap (λ ys. joined_ports os m label (givens_view ys)) c.as_slice-given.ensures)
-    (ap (λ ys. given_faults label m.ports (givens_view ys) ++ flat_map (port_faults g) (joined_ports os m label (givens_view ys))) c.as_slice-given.ensures)
+    (ap (λ ys. connections_faults g os m label (givens_view ys)) c.as_slice-given.ensures)
     (λ b i. c.in_ok-inner.ensures b i g c.in_ok-found.ensures.how)
     (replaced_goes ms c.args.depth given g inside p inner js fs faults c.in_ok-entered.ensures.walks found
     (subst (λ ys. GoesBy base c.walk_instance.new.walk c.args.numbers c.walk_ports.new.walk c.args.numbers (λ b i l n st. join_ports (around_here b given i g) p inside (ports_view ys) st) 0 0) c.deref.ensures.value (joins given))))
@@ -240,7 +239,7 @@ instances::walk_one-returns t c =
     one_goes ms c.args.depth given g p x m os o inner js fs
     (λ b i. ap (λ ds. list_any (λ d. bytes_eq d.name.name o.name.name && is_same_place d.name.place o.name.place) ds) (sym c.requires.declared) ∙ sym c.is_declared_here.ensures ∙ c.if-not-is_declared_here.false)
     (c.in_ok-found.ensures.ports ∙ ap (λ ys. joined_ports os m label (givens_view ys)) c.as_slice-given.ensures)
-    (ap (λ ys. given_faults label m.ports (givens_view ys) ++ flat_map (port_faults g) (joined_ports os m label (givens_view ys))) c.as_slice-given.ensures)
+    (ap (λ ys. connections_faults g os m label (givens_view ys)) c.as_slice-given.ensures)
     (λ b i. c.in_ok-inner.ensures b i g c.in_ok-found.ensures.how)
     (replaced_ends ms c.args.depth given g p inner js fs faults c.in_ok-entered.ensures.walks ended)
 

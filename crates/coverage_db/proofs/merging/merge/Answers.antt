@@ -1,4 +1,6 @@
-use Rattle.std.proofs.Common.{sym}
+use Rattle.std.proofs.Common.{◌≡◌, ◌<◌, ◌^◌, ℕ, List, length, sym, ap, subst, ◌∙◌}
+use Rattle.coverage_db.specs.declared.window.Window.{Window}
+use Rattle.coverage_db.specs.Windows.{joined_windows}
 use Rattle.coverage_db.proofs.MergeLaws.{none_alike, alike_lines, some_differs, differs_at, merged_table}
 use Rattle.coverage_db.proofs.merging.merge.Goals as goal
 
@@ -10,7 +12,9 @@ returns-in-Some-clause-differ c =
 pub returns-clause-table : goal.returns-clause-table
 returns-clause-table c =
     let none = rw c.in_default.is at c.first_difference.ensures.place in
-    rw (c.in_ok-merge_points.ensures, c.as_slice.ensures) (merged_table c.args.left c.args.right.now c.requires.left c.requires.right (none_alike c.args.left c.args.right.now (sym none)))
+    let joined = c.in_ok-join_windows.ensures.joined in
+    let few = subst (λ (ws : List Window). length ws < 2 ^ 64) (joined ∙ ap (λ (ws : List Window). joined_windows ws c.as_slice-3.result.now) c.as_slice-2.ensures ∙ ap (joined_windows c.args.left.windows) c.as_slice-3.ensures) c.in_ok-join_windows.ensures.few in
+    rw (c.in_ok-merge_points.ensures, c.as_slice.ensures, joined, c.as_slice-2.ensures, c.as_slice-3.ensures) (merged_table c.args.left c.args.right.now c.requires.left c.requires.right (none_alike c.args.left c.args.right.now (sym none)) few)
 
 pub returns-clause-same : goal.returns-clause-same
 returns-clause-same c =

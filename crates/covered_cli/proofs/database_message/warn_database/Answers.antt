@@ -3,10 +3,10 @@ use Rattle.covered_cli.proofs.Lines.{WarnsLine-is}
 use Rattle.covered_cli.proofs.database_message.warn_database.Goals as goal
 
 pub returns-in-Files-clause-line : goal.returns-in-Files-clause-line
-returns-in-Files-clause-line g c = rw c.in-Files.is (WarnsLine-is _ _ (g.H.Host.outside c.args.host.now) (g.H.Host.outside c.warn_file.new.host) (search (rules, append_assoc, c.name.ensures)) c.warn_file.ensures.line)
+returns-in-Files-clause-line g c = rw c.in-Files.is (WarnsLine-is _ _ (g.H.Host.outside c.args.host.now) (g.H.Host.outside c.warn_file.new.host) (search (rules, append_assoc, c.name.ensures, c.as_bytes.ensures.value)) c.warn_file.ensures.line)
 
 pub returns-in-Print-clause-line : goal.returns-in-Print-clause-line
-returns-in-Print-clause-line g c = rw c.in-Print.is (WarnsLine-is _ _ (g.H.Host.outside c.args.host.now) (g.H.Host.outside c.warn_pieces.new.host) (search (rules, append_assoc, c.as_bytes.ensures.value)) c.warn_pieces.ensures.line)
+returns-in-Print-clause-line g c = rw c.in-Print.is (WarnsLine-is _ _ (g.H.Host.outside c.args.host.now) (g.H.Host.outside c.warn_pieces.new.host) (search (rules, append_assoc, c.as_bytes-in-Print.ensures.value)) c.warn_pieces.ensures.line)
 
 pub returns-in-Memory-clause-line : goal.returns-in-Memory-clause-line
 returns-in-Memory-clause-line g c = rw c.in-Memory.is (WarnsLine-is _ _ (g.H.Host.outside c.args.host.now) (g.H.Host.outside c.warn_pieces-in-Memory.new.host) (search (rules, append_assoc, c.as_bytes-in-Memory.ensures.value)) c.warn_pieces-in-Memory.ensures.line)

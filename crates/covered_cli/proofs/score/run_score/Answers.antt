@@ -3,7 +3,7 @@ use Rattle.std.proofs.lemmas.Result.{err_from_is_err_and, on_err_weaker}
 use Rattle.command_line.specs.CommandWords.{score_values}
 use Rattle.design_model.specs.View.{design_view}
 use Rattle.design_points.specs.Counted.{AreAllPoints}
-use Rattle.whole_files.proofs.EffectLemmas.{CountsUp-trans, KeepsFiles-trans}
+use Rattle.whole_files.proofs.EffectLemmas.{CountsUp-trans, KeepsFiles-trans, OnlyReads-trans}
 use Rattle.covered_cli.proofs.Designs.{lawful_design, replayable_design, rooted_design, written_design}
 use Rattle.covered_cli.proofs.Scoring.{IfErr-map, OnOk-map, design_stands, drawing_stands, has_listed, others_kept, others_kept_since, points_stand, score_is_done, scoring_stands, text_is_scored, writing_is_late, writing_stands}
 use Rattle.covered_cli.proofs.Machines.{drawable, machines_are, written_machines}
@@ -11,7 +11,6 @@ use Rattle.covered_cli.proofs.SourceNames.{AreGoodNames, good_names}
 use Rattle.covered_cli.specs.ScoreSources.{sources_in}
 use Rattle.covered_cli.specs.Scoring.{IsScoredText}
 use Rattle.database_commands.proofs.Reporting.{OnErr-intro, leaves_all, leaves_front}
-use Rattle.whole_files.proofs.EffectLemmas.{OnlyReads-trans}
 use Rattle.covered_cli.proofs.score.run_score.Goals as goal
 
 pub returns-in_err-design-clause-fault : goal.returns-in_err-design-clause-fault

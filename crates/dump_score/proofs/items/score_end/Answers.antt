@@ -8,6 +8,7 @@ use Rattle.vcd_reader.specs.Wanted.{item_by, saying_more}
 use Rattle.vcd_reader.specs.WantedPieces.{kept_value}
 use Rattle.vcd_reader.specs.declared.vars.Var.{Var}
 use Rattle.dump_score.specs.Scoring.{CanEnd}
+use Rattle.dump_score.proofs.FirstValues.{found_at_end}
 use Rattle.dump_score.proofs.Stepping.{EndStepped, Passed, end_again, end_can_say, end_fault, end_heard, none_passed, saying_in, scored_end}
 use Rattle.dump_score.proofs.items.score_end.Goals as goal
 use Rattle.dump_score.proofs.items.score_end.Goals.{In_ok-heard}
@@ -24,7 +25,7 @@ returns-in_err-heard-clause-fault c =
     let fault = err_from_is_err_and c.from_residual.result c.from_residual.ensures.1 in
     rw (fault.1, fault.2) (λ habit design points vars instance text can.
     elim can.stands [
-      | inl read ↦ c.in_err-heard.ensures.fault text can.b read
+      | inl read ↦ found_at_end c.wanted.result.now c.args.body.now c.args.replay.now c.wanted.ensures habit design points vars instance text _ can (c.in_err-heard.ensures.fault text can.b read)
       | inr ended ↦ absurd (let no = (c.in_err-heard.ensures.ended text can.b ended).0 in cc)
     ])
 

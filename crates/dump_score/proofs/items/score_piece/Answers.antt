@@ -3,7 +3,8 @@ use Rattle.std.proofs.lemmas.Result.{err_from_is_err_and}
 use Rattle.four_state.specs.Vector.{Vector}
 use Rattle.vcd_reader.specs.Wanted.{item_by}
 use Rattle.vcd_reader.specs.WantedPieces.{kept_value}
-use Rattle.dump_score.proofs.Stepping.{Steps, can_say, found_in_piece, heard, reading_step, say_found_in_piece, scored_further, scoring_some, some_reading}
+use Rattle.dump_score.proofs.FirstValues.{found_in_piece}
+use Rattle.dump_score.proofs.Stepping.{Steps, can_say, heard, reading_step, say_found_in_piece, scored_further, scoring_some, some_reading}
 use Rattle.dump_score.proofs.Opening.{whole_piece}
 use Rattle.dump_score.proofs.items.score_piece.Goals as goal
 use Rattle.dump_score.proofs.items.score_piece.Goals.{In_ok-heard}
@@ -22,7 +23,8 @@ returns-in_err-heard-clause-fault c =
     let refused = rw c.split_at.ensures.back at c.in_err-heard.ensures.fault in
     rw (fault.1, fault.2) (λ habit design points vars instance text is.
     let turn = c.loop-used.invariant.scores habit design points vars instance text is in
-    found_in_piece text c.args.piece.now c.loop-used.used _ (omega (arith, length-drop c.loop-used.used c.args.piece.now, c.loop-used-test.true)) (refused (text ++ take c.loop-used.used c.args.piece.now) turn.b turn.stands))
+    found_in_piece c.wanted.result.now c.loop-used.body c.loop-used.replay c.wanted.ensures habit design points vars instance text c.args.piece.now c.loop-used.used _
+    (omega (arith, length-drop c.loop-used.used c.args.piece.now, c.loop-used-test.true)) turn (refused (text ++ take c.loop-used.used c.args.piece.now) turn.b turn.stands))
 
 pub say-requires : goal.say-requires
 say-requires c =

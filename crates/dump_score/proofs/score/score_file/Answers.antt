@@ -4,7 +4,7 @@ use Rattle.dump_replay.specs.shown_dumps.Shown.{bound_dump}
 use Rattle.whole_files.proofs.EffectLemmas.{OnlyReads-trans}
 use Rattle.dump_score.proofs.FileLemmas.{header_refuses, nothing_read}
 use Rattle.dump_score.proofs.Opening.{bind_in_file, can_end_binds, end_in_file, open_scoring, opened_bound}
-use Rattle.dump_score.proofs.Scored.{said, scored_file, scored_rises, scored_times}
+use Rattle.dump_score.proofs.Scored.{said, scored_file, scored_rises, scored_times, scored_windows}
 use Rattle.dump_score.proofs.score.score_file.Goals as goal
 
 pub returns-in_err-opened-clause-fault : goal.returns-in_err-opened-clause-fault
@@ -131,6 +131,25 @@ score_table-requires-clause-marks g c =
     let scored = c.in_ok-score_end.ensures.ok habit design points opened.vars instance on.0 on.2 in
     (c.finish-marks.ensures habit design points opened.vars instance scored.b.items (scored_rises c.score_end.new.replay habit design points opened.vars instance on.0 scored) scored.followed).of
 
+pub score_table-requires-clause-windows : goal.score_table-requires-clause-windows
+score_table-requires-clause-windows g c =
+    let name = c.args.name.now in
+    let before = g.H.Host.outside c.args.host.now in
+    let start = nothing_read name before (g.H.Host.outside c.open.new.host) c.in_ok-open.ensures.opened c.in_ok-open.ensures.effects in
+    let now = g.H.Host.outside c.read_header.new.host in
+    let piece = c.read_header.new.piece in
+    let opened = c.in_ok-opened.opened in
+    let o = c.in_ok-opened.ensures.opened name before start in
+    let habit = habit_of c.args.habit in
+    let design = c.args.design.now in
+    let points = c.args.points.now in
+    let instance = c.args.instance.now in
+    let is = opened_bound name before now piece opened c.in_ok-replay.replay habit design points instance o c.in_ok-replay.ensures.followed in
+    let on = c.in_ok-score_body.ensures.ok name before habit design points opened.vars instance is in
+    let scored = c.in_ok-score_end.ensures.ok habit design points opened.vars instance on.0 on.2 in
+    let replay = c.score_end.new.replay in
+    scored_windows replay habit design points opened.vars instance on.0 scored c.in_ok-windows.windows (c.in_ok-windows.ensures habit design points opened.vars instance scored.b.items (scored_rises replay habit design points opened.vars instance on.0 scored) scored.followed)
+
 pub score_table-requires-clause-scored : goal.score_table-requires-clause-scored
 score_table-requires-clause-scored g c =
     let name = c.args.name.now in
@@ -169,10 +188,14 @@ returns-clause-scored g c = λ machines all.
     let replay = c.score_end.new.replay in
     let final = c.finish-marks.ensures habit design points opened.vars instance scored.b.items (scored_rises replay habit design points opened.vars instance on.0 scored) scored.followed in
     let times = scored_times replay habit design points opened.vars instance on.0 scored in
-    scored_file replay habit design points opened.vars instance on.0 scored name before machines c.args.sources c.finish-marks.result _ on.1 final (c.in_ok-score_table.ensures habit _ machines all times final.scored)
+    let windows = c.in_ok-windows.ensures habit design points opened.vars instance scored.b.items (scored_rises replay habit design points opened.vars instance on.0 scored) scored.followed in
+    scored_file replay habit design points opened.vars instance on.0 scored name before machines c.args.sources c.finish-marks.result _ on.1 final (c.in_ok-score_table.ensures habit _ machines all times final.scored windows)
 
 pub returns-in_err-score_end-clause-effects : goal.returns-in_err-score_end-clause-effects
 returns-in_err-score_end-clause-effects g c = OnlyReads-trans _ _ _ c.in_ok-open.ensures.effects (OnlyReads-trans _ _ _ c.in_ok-opened.ensures.effects c.in_ok-score_body.ensures.effects)
+
+pub returns-in_err-windows-clause-effects : goal.returns-in_err-windows-clause-effects
+returns-in_err-windows-clause-effects g c = OnlyReads-trans _ _ _ c.in_ok-open.ensures.effects (OnlyReads-trans _ _ _ c.in_ok-opened.ensures.effects c.in_ok-score_body.ensures.effects)
 
 pub returns-in_err-score_table-clause-effects : goal.returns-in_err-score_table-clause-effects
 returns-in_err-score_table-clause-effects g c = OnlyReads-trans _ _ _ c.in_ok-open.ensures.effects (OnlyReads-trans _ _ _ c.in_ok-opened.ensures.effects c.in_ok-score_body.ensures.effects)

@@ -12,7 +12,7 @@ use Rattle.verilog_tree.specs.Tree.{concatenation, exprs_of, place_of}
 use Rattle.verilog_tree.specs.View.{expr_view, exprs_view}
 use Rattle.elab_scope.specs.Tally.{after_faults}
 use Rattle.elab_scope.specs.View.{name_view}
-use Rattle.elab_checks.proofs.CheckLemmas.{left_false, right_false, goes_both, one_goes_on, met_three, met_five, none_five, four_stop, five_go_on, slid_not, slid_by_base, width_known, word_is, bit_is}
+use Rattle.elab_checks.proofs.CheckLemmas.{left_false, right_false, one_goes_on, met_three, met_five, none_five, four_stop, five_go_on, slid_not, slid_by_base, width_known, word_is, bit_is}
 use Rattle.elab_checks.proofs.ConstantLemmas.{goes_on, stops, sound_is, constant_faults_are}
 use Rattle.elab_checks.proofs.ExpressionLemmas.{met_then, none_then_both, none_three, number_known, met_next, none_next, next_is}
 use Rattle.flat_design.proofs.NoConstFaults.{both_true, true_both}
@@ -196,45 +196,21 @@ check_bound-returns-clause-sound t c =
     let sound = sym c.check_number-sound.ensures.sound ∙ c.if-not-sound.false in
     (goes_on c.args.tally.now c.check_number-sound.new.tally c.check_bound_number.new.tally c.check_number-sound.result c.check_bound_number.result (number_faults g e (faults g e)) (answer_faults (told (bound_from c.args.bracket (number_of (names g) e)))) _ c.check_number-sound.ensures.met c.check_number-sound.ensures.sound c.if-not-sound.false (rw c.number.ensures at c.check_bound_number.ensures.met) (rw c.number.ensures at c.check_bound_number.ensures.sound) (true_both _ _ constant sound)).1
 
-pub check_constant-returns-then-not-names_constants-clause-met : goal.check_constant-returns-then-not-names_constants-clause-met
-check_constant-returns-then-not-names_constants-clause-met t c =
-    let g = binding_of c.args.scope.now in
-    let e = expr_view c.args.expr.now in
-    let undeclared = spec.undeclared g e in
-    let other = fault_if (spec.names_no_constant g e) (of_constant NotConstant (place_of e)) in
-    let met = met_then c.args.tally.now c.check_declared.new.tally c.check_constancy.new.tally undeclared other c.check_declared.ensures.met c.check_constancy.ensures.met in
-    let sound = none_then_both c.check_declared.result c.check_constancy.result undeclared other c.check_declared.ensures.sound c.check_constancy.ensures.sound in
-    (stops c.args.tally.now c.check_constancy.new.tally _ (undeclared ++ other) (faults g e) (names_constants g e) met sound (sym c.names_constants.ensures ∙ c.if-not-names_constants.true)).0
-
-pub check_constant-returns-then-not-names_constants-clause-sound : goal.check_constant-returns-then-not-names_constants-clause-sound
-check_constant-returns-then-not-names_constants-clause-sound t c =
-    let g = binding_of c.args.scope.now in
-    let e = expr_view c.args.expr.now in
-    let undeclared = spec.undeclared g e in
-    let other = fault_if (spec.names_no_constant g e) (of_constant NotConstant (place_of e)) in
-    let met = met_then c.args.tally.now c.check_declared.new.tally c.check_constancy.new.tally undeclared other c.check_declared.ensures.met c.check_constancy.ensures.met in
-    let sound = none_then_both c.check_declared.result c.check_constancy.result undeclared other c.check_declared.ensures.sound c.check_constancy.ensures.sound in
-    (stops c.args.tally.now c.check_constancy.new.tally _ (undeclared ++ other) (faults g e) (names_constants g e) met sound (sym c.names_constants.ensures ∙ c.if-not-names_constants.true)).1
-
 pub check_constant-returns-clause-met : goal.check_constant-returns-clause-met
 check_constant-returns-clause-met t c =
     let g = binding_of c.args.scope.now in
     let e = expr_view c.args.expr.now in
-    let undeclared = spec.undeclared g e in
     let other = fault_if (spec.names_no_constant g e) (of_constant NotConstant (place_of e)) in
-    let met = met_then c.args.tally.now c.check_declared.new.tally c.check_constancy.new.tally undeclared other c.check_declared.ensures.met c.check_constancy.ensures.met in
-    let sound = none_then_both c.check_declared.result c.check_constancy.result undeclared other c.check_declared.ensures.sound c.check_constancy.ensures.sound in
-    (goes_both c.args.tally.now c.check_constancy.new.tally c.check.new.tally _ c.check.result (undeclared ++ other) (faults g e) (names_constants g e) met sound c.check.ensures.met c.check.ensures.sound (sym c.names_constants.ensures ∙ c.if-not-names_constants.false)).0
+    let met = met_then c.args.tally.now c.check_declared.new.tally c.check_constancy.new.tally (spec.undeclared g e) other c.check_declared.ensures.met c.check_constancy.ensures.met in
+    met_then c.args.tally.now c.check_constancy.new.tally c.check.new.tally (spec.undeclared g e ++ other) (faults g e) met c.check.ensures.met
 
 pub check_constant-returns-clause-sound : goal.check_constant-returns-clause-sound
 check_constant-returns-clause-sound t c =
     let g = binding_of c.args.scope.now in
     let e = expr_view c.args.expr.now in
-    let undeclared = spec.undeclared g e in
     let other = fault_if (spec.names_no_constant g e) (of_constant NotConstant (place_of e)) in
-    let met = met_then c.args.tally.now c.check_declared.new.tally c.check_constancy.new.tally undeclared other c.check_declared.ensures.met c.check_constancy.ensures.met in
-    let sound = none_then_both c.check_declared.result c.check_constancy.result undeclared other c.check_declared.ensures.sound c.check_constancy.ensures.sound in
-    (goes_both c.args.tally.now c.check_constancy.new.tally c.check.new.tally _ c.check.result (undeclared ++ other) (faults g e) (names_constants g e) met sound c.check.ensures.met c.check.ensures.sound (sym c.names_constants.ensures ∙ c.if-not-names_constants.false)).1
+    let sound = none_then_both c.check_declared.result c.check_constancy.result (spec.undeclared g e) other c.check_declared.ensures.sound c.check_constancy.ensures.sound in
+    none_then_both _ c.check.result (spec.undeclared g e ++ other) (faults g e) sound c.check.ensures.sound
 
 pub check_number-returns-then-not-sound-clause-met : goal.check_number-returns-then-not-sound-clause-met
 check_number-returns-then-not-sound-clause-met t c =

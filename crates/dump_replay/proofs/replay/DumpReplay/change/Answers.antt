@@ -4,5 +4,5 @@ use Rattle.dump_replay.proofs.replay.DumpReplay.change.Goals as goal
 
 pub returns-clause-followed : goal.returns-clause-followed
 returns-clause-followed c =
-    changed c.args.self.now record { replay = c.change.new.self; wanted = c.args.self.now.wanted; last = c.args.self.now.last } c.args.code c.args.value.now c.change.ensures.ready c.change.ensures.made (λ n. c.change.ensures.phase ∙ n) c.change.ensures.values refl refl
+    changed c.args.self.now record { replay = c.change.new.self; wanted = c.args.self.now.wanted; first = c.args.self.now.first; last = c.args.self.now.last } c.args.code c.args.value.now c.change.ensures.ready c.change.ensures.made (λ n. c.change.ensures.phase ∙ n) c.change.ensures.values refl refl refl
     c.change.ensures.followed

@@ -32,6 +32,7 @@ returns-clause-followed c =
         within = λ code coded. c.in_ok-replay.ensures.within coded.0 code (ap (λ cs. code_at cs coded.0) codes ∙ coded.1);
         wanted = subst (λ cs. AreWanted cs c.in_ok-wanted.wanted.items) (c.as_slice.ensures.value ∙ codes) c.in_ok-wanted.ensures;
       };
+      first = refl;
       last = refl;
       taken = taken_none (Follows c.in_ok-replay.replay) (IsNew c.in_ok-replay.replay) (codes_of c.args.design.now c.args.vars.now c.args.instance.now) (value_of (given_of c.in_ok-replay.replay)) c.in_ok-replay.ensures.values c.in_ok-replay.ensures.new;
     }

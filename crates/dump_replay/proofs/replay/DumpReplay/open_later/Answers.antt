@@ -11,5 +11,5 @@ returns-in_err-close-clause-fault c =
 
 pub returns-clause-followed : goal.returns-clause-followed
 returns-clause-followed c habit design points vars instance entries are rises f =
-    later_opened c.args.self.now c.close.new.self record { replay = c.close.new.self.replay; wanted = c.close.new.self.wanted; last = Some c.args.time } c.args.last c.args.time c.close.ensures.ready c.in_ok-close.ensures.started c.close.ensures.made c.close.ensures.given c.close.ensures.wanted c.requires.last
-    refl refl refl c.in_ok-close.ensures.followed habit design points vars instance entries are f
+    later_opened c.args.self.now c.close.new.self record { replay = c.close.new.self.replay; wanted = c.close.new.self.wanted; first = c.close.new.self.first; last = Some c.args.time } c.args.last c.args.time c.close.ensures.ready c.in_ok-close.ensures.started c.close.ensures.made c.close.ensures.given c.close.ensures.wanted c.close.ensures.first c.requires.last
+    refl refl refl refl c.in_ok-close.ensures.followed habit design points vars instance entries are f

@@ -1,16 +1,12 @@
-use Rattle.std.proofs.Common.{◌||◌, Bool, sym, ap, ◌∙◌}
-use Rattle.flat_design.specs.Declarations.{Declaration, has_direction, is_faulty, is_port}
+use Rattle.std.proofs.Common.{sym, ap, ◌∙◌}
+use Rattle.flat_design.specs.Declarations.{has_direction, is_port}
 use Rattle.elab_declarations.proofs.TableLemmas.{any_named_at, holds_of}
 use Rattle.elab_declarations.proofs.declarations.Declarations.is_port.Goals as goal
 
--- a port, or with a fault
-abbrev passes : Declaration → Bool
-passes d = has_direction d || is_faulty d.sort
-
 pub returns-in-Some : goal.returns-in-Some
 returns-in-Some c =
-    c.is_port.ensures ∙ ap (holds_of passes) c.in-Some.ensures.value ∙ sym (any_named_at passes c.args.name.now c.self.inside.found.entries c.self.invariant _ c.as_slice.ensures) ∙ ap (λ ds. is_port ds c.args.name.now) c.self.view_is
+    c.has_direction.ensures ∙ ap (holds_of has_direction) c.in-Some.ensures.value ∙ sym (any_named_at has_direction c.args.name.now c.self.inside.found.entries c.self.invariant _ c.as_slice.ensures) ∙ ap (λ ds. is_port ds c.args.name.now) c.self.view_is
 
 pub returns-in-None : goal.returns-in-None
 returns-in-None c =
-    ap (holds_of passes) c.in-None.ensures.value ∙ sym (any_named_at passes c.args.name.now c.self.inside.found.entries c.self.invariant _ c.as_slice.ensures) ∙ ap (λ ds. is_port ds c.args.name.now) c.self.view_is
+    ap (holds_of has_direction) c.in-None.ensures.value ∙ sym (any_named_at has_direction c.args.name.now c.self.inside.found.entries c.self.invariant _ c.as_slice.ensures) ∙ ap (λ ds. is_port ds c.args.name.now) c.self.view_is

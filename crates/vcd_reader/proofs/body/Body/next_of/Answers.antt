@@ -19,7 +19,13 @@ returns-in-Ok-clause-ended c = λ text b h.
     (sym c.in-Ok.is ∙ ended.0, record { sound = h.sound; ended = ended.1 })
 
 pub returns-in-Err-clause-fault : goal.returns-in-Err-clause-fault
-returns-in-Err-clause-fault c = λ text b h. rw c.fail.ensures.same (c.in-Err.ensures.fault text b h.stands)
+returns-in-Err-clause-fault c = λ text b h.
+    let p = c.in-Err.ensures.fault text b h.stands in
+    rw c.fail.ensures.same (record {
+      passed = p.passed;
+      unwanted = All-weaker _ _ (unwanted_of (filter_row.Only c.args.wanted) c.args.wanted.now (λ code. refl)) p.passed p.unheard;
+      is = p.then;
+    })
 
 pub returns-in-Err-clause-ended : goal.returns-in-Err-clause-ended
 returns-in-Err-clause-ended c = λ text b h.

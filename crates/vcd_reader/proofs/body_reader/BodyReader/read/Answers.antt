@@ -6,7 +6,7 @@ use Rattle.vcd_reader.specs.Hearing.{said_by}
 use Rattle.vcd_reader.specs.Wanted.{saying_more}
 use Rattle.vcd_reader.specs.Passing.{Passing}
 use Rattle.vcd_reader.specs.BodyStanding.{BodyStands, SaysNext}
-use Rattle.vcd_reader.proofs.BodyStanding.{says_then}
+use Rattle.vcd_reader.proofs.BodyStanding.{passing_fault, says_then}
 use Rattle.vcd_reader.proofs.WholeWords.{further, fault_in_rest}
 use Rattle.vcd_reader.proofs.body_reader.BodyReader.read.Goals as goal
 use Rattle.vcd_reader.proofs.body_reader.BodyReader.read.Goals.{In_ok-front}
@@ -33,7 +33,8 @@ returns-in_err-front-clause-fault c =
     let refused = rw c.split_at.ensures.back at c.in_err-front.ensures.fault in
     rw (fault.1, fault.2) (λ text b s.
     let first = c.loop-used.invariant.says text b s in
-    fault_in_rest text c.args.piece.now c.loop-used.used _ (refused (text ++ take c.loop-used.used c.args.piece.now) first.then.next first.then.stands))
+    passing_fault c.args.filter c.loop-used.self (text ++ take c.loop-used.used c.args.piece.now) (text ++ c.args.piece.now) b _ first
+    (fault_in_rest text c.args.piece.now c.loop-used.used first.then.next _ (refused (text ++ take c.loop-used.used c.args.piece.now) first.then.next first.then.stands)))
 
 pub returns-in-Time-clause-ok : goal.returns-in-Time-clause-ok
 returns-in-Time-clause-ok c = λ text b s.
