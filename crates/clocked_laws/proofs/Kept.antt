@@ -10,10 +10,11 @@ use Rattle.replay_steps.specs.replay_model.design_model.Mentions.{blocking_targe
 use Rattle.replay_steps.specs.replay_model.body_replay.Contract.{Certainty, clean, weak}
 use Rattle.replay_steps.specs.replay_model.body_replay.Replay.{flush}
 use Rattle.replay_steps.specs.replay_model.body_replay.Runs.{AreRuns, StoreView}
-use Rattle.replay_steps.specs.replay_model.Step.{Closing, Working, after_clocked, clean_store, clocked_run, is_dumped, is_loose, is_touched, opened, plain_store, run_all_clean, run_all_settling, run_all_weak, run_clean, run_settling, run_weak, settle_start, updated}
+use Rattle.replay_steps.specs.replay_model.Step.{Closing, Working, after_clocked, clean_order, clean_store, clocked_run, is_dumped, is_loose, is_touched, opened, plain_store, run_all_clean, run_all_settling, run_all_weak, run_clean, run_settling, run_weak, settle_start, updated}
 use Rattle.replay_steps.specs.Settling.{IsStillAt, MoveTargets}
 use Rattle.replay_steps.proofs.replay_model.Bits.{any_in, flush_append}
 use Rattle.replay_steps.proofs.replay_model.Clocked.{at_false, at_true}
+use Rattle.replay_steps.proofs.replay_model.Rounds.{in_order}
 use Rattle.replay_steps.proofs.replay_model.Targets.{blocks_assigns, blocks_from, is_target-from, queues_assigns, queues_from}
 use Rattle.replay_steps.proofs.Settling.{run_still}
 use Rattle.run_cells.specs.Cells.{KeepsCell}
@@ -59,7 +60,7 @@ module _ (st : Closing) (c : Cell) where
 
 pub clocked_kept : ClockedKeepLaw
 clocked_kept st c keeps =
-    all_weak st c st.tables.clocked (run_all_clean st st.tables.clocked (opened st)) keeps (all_clean st c st.tables.clocked (opened st) keeps (record { kept = refl; queue = λ k. refl }))
+    all_weak st c st.tables.clocked (run_all_clean st (clean_order st) (opened st)) keeps (all_clean st c (clean_order st) (opened st) (λ p i. keeps p (in_order st.sets.round p st.tables.clocked i)) (record { kept = refl; queue = λ k. refl }))
 
 -- ---- a cell that none of them may write
 

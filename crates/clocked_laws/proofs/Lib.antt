@@ -1,3 +1,4 @@
+pub mod Rounds
 pub mod Order
 pub mod Kept
 pub mod Firm

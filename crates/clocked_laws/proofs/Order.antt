@@ -6,9 +6,11 @@ use Rattle.std.specs.Prelude.{if◌then◌else◌, is_none, is_some}
 use Rattle.std.specs.List.{filter}
 use Rattle.replay_steps.specs.replay_model.design_model.Design.{cell}
 use Rattle.replay_steps.specs.replay_model.Marks.{Marking}
-use Rattle.replay_steps.specs.replay_model.Step.{Closing, Working, clocked_run, opened, run_all_clean, run_all_weak, run_clean, run_weak}
+use Rattle.replay_steps.specs.replay_model.Step.{Closing, Working, clean_order, clocked_run, in_rounds, opened, run_all_clean, run_all_weak, run_clean, run_weak}
+use Rattle.replay_steps.proofs.replay_model.Rounds.{in_order}
 use Rattle.clocked_laws.specs.Clocked.{is_clean, is_weak}
-use Rattle.clocked_laws.specs.Laws.{CleanAppendLaw, CleanFilterLaw, ClockedFilterLaw, ClockedNotesLaw, ClockedRunningLaw, ClockedUnmadeLaw, WeakAppendLaw, WeakFilterLaw}
+use Rattle.clocked_laws.proofs.Rounds.{order_filtered}
+use Rattle.clocked_laws.specs.Laws.{CleanAppendLaw, CleanFilterLaw, CleanOrderLaw, ClockedFilterLaw, ClockedNotesLaw, ClockedRunningLaw, ClockedUnmadeLaw, WeakAppendLaw, WeakFilterLaw}
 
 -- ---- those that do not run
 
@@ -51,10 +53,15 @@ weak_filtered st f (p ∷ ps) w all = go (f p) refl (λ z. weak_filtered st f ps
         rest (run_weak st (st.sets.trigger p) (st.sets.wakes p) p w)
         ∙ ap (λ z. run_all_weak st (filter f ps) z) (unweak st (st.sets.trigger p) (st.sets.wakes p) p w (not_either (is_weak st p) (f p) (all p (inl refl)) e))
 
+pub clean_ordered : CleanOrderLaw
+clean_ordered st round f ps w all =
+    clean_filtered st f (in_rounds round ps) w (λ p i e. all p (in_order round p ps i) e)
+    ∙ ap (λ qs. run_all_clean st qs w) (order_filtered round f ps)
+
 pub clocked_filtered : ClockedFilterLaw
 clocked_filtered st f all =
-    weak_filtered st f st.tables.clocked (run_all_clean st st.tables.clocked (opened st)) (λ p i e. all p i (or_right (is_clean st p) (is_weak st p) e))
-    ∙ ap (λ z. run_all_weak st (filter f st.tables.clocked) z) (clean_filtered st f st.tables.clocked (opened st) (λ p i e. all p i (or_left (is_clean st p) (is_weak st p) e)))
+    weak_filtered st f st.tables.clocked (run_all_clean st (clean_order st) (opened st)) (λ p i e. all p i (or_right (is_clean st p) (is_weak st p) e))
+    ∙ ap (λ z. run_all_weak st (filter f st.tables.clocked) z) (clean_ordered st st.sets.round f st.tables.clocked (opened st) (λ p i e. all p i (or_left (is_clean st p) (is_weak st p) e)))
 
 -- ---- two lists
 
@@ -97,7 +104,7 @@ module _ (st : Closing) where
   weak_unmade (p ∷ ps) w = weak_unmade ps (run_weak st (st.sets.trigger p) (st.sets.wakes p) p w) ∙ one_weak_unmade (st.sets.trigger p) (st.sets.wakes p) p w
 
 pub clocked_unmade : ClockedUnmadeLaw
-clocked_unmade st = weak_unmade st st.tables.clocked (run_all_clean st st.tables.clocked (opened st)) ∙ clean_unmade st st.tables.clocked (opened st)
+clocked_unmade st = weak_unmade st st.tables.clocked (run_all_clean st (clean_order st) (opened st)) ∙ clean_unmade st (clean_order st) (opened st)
 
 -- ---- what they report
 
@@ -132,5 +139,5 @@ module _ (st : Closing) where
 
 pub clocked_adds : ClockedNotesLaw
 clocked_adds st =
-    both st.start.notes (run_all_clean st st.tables.clocked (opened st)).notes (clocked_run st).notes (clean_adds st st.tables.clocked (opened st))
-    (weak_adds st st.tables.clocked (run_all_clean st st.tables.clocked (opened st)))
+    both st.start.notes (run_all_clean st (clean_order st) (opened st)).notes (clocked_run st).notes (clean_adds st (clean_order st) (opened st))
+    (weak_adds st st.tables.clocked (run_all_clean st (clean_order st) (opened st)))

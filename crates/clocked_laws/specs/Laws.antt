@@ -11,7 +11,7 @@ use Rattle.replay_steps.specs.replay_model.body_replay.Runs.{AreRuns, Runs}
 use Rattle.replay_steps.specs.replay_model.Laws.{closing_at}
 use Rattle.replay_steps.specs.replay_model.Marks.{Marking}
 use Rattle.replay_steps.specs.replay_model.Sets.{AreSets, Sets}
-use Rattle.replay_steps.specs.replay_model.Step.{Closing, Replay, Working, all_run, clocked_run, contradicts, is_dumped, is_loose, is_target, opened, run_all_clean, run_all_weak, run_clean, run_weak, settle_start, surely_differ, with_dump}
+use Rattle.replay_steps.specs.replay_model.Step.{Closing, Replay, Working, all_run, clocked_run, contradicts, in_rounds, is_dumped, is_loose, is_target, opened, run_all_clean, run_all_weak, run_clean, run_weak, settle_start, surely_differ, with_dump}
 use Rattle.replay_steps.specs.replay_model.Tables.{AreTables, Tables}
 use Rattle.replay_steps.specs.Blank.{DrivesCells, HasDumpCells, IsBlank}
 use Rattle.replay_steps.specs.Settling.{IsDumpStill, IsStillAt, MoveTargets}
@@ -32,11 +32,17 @@ WeakFilterLaw =
     (st : Closing) (f : ℕ → Bool) (ps : List ℕ) (w : Working) → ((p : ℕ) → In p ps → is_weak st p ≡ true → f p ≡ true)
     → run_all_weak st ps w ≡ run_all_weak st (filter f ps) w
 
--- of the Clocked, in their order, those that are left out by a test change nothing where none of them runs
+-- nor do they where the list is put in order of rounds
+abbrev pub CleanOrderLaw : Type 0
+CleanOrderLaw =
+    (st : Closing) (round : ℕ → ℕ) (f : ℕ → Bool) (ps : List ℕ) (w : Working) → ((p : ℕ) → In p ps → is_clean st p ≡ true → f p ≡ true)
+    → run_all_clean st (in_rounds round ps) w ≡ run_all_clean st (in_rounds round (filter f ps)) w
+
+-- of the Clocked those that are left out by a test change nothing where none of them runs
 abbrev pub ClockedFilterLaw : Type 0
 ClockedFilterLaw =
     (st : Closing) (f : ℕ → Bool) → ((p : ℕ) → In p st.tables.clocked → is_running st p ≡ true → f p ≡ true)
-    → clocked_run st ≡ run_all_weak st (filter f st.tables.clocked) (run_all_clean st (filter f st.tables.clocked) (opened st))
+    → clocked_run st ≡ run_all_weak st (filter f st.tables.clocked) (run_all_clean st (in_rounds st.sets.round (filter f st.tables.clocked)) (opened st))
 
 -- the clean ones of two lists run one list after the other
 abbrev pub CleanAppendLaw : Type 0

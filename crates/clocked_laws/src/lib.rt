@@ -1,7 +1,7 @@
 //! Theorems of the Clocked processes of one closing step, beside those of `replay_steps`; there is no code.
 //!
 //! A Clocked runs exactly where it can wake ([`clocked_running_law`]); the others may be left out, and the clean and the weak ones
-//! taken one by one in one order ([`clean_filter_law`], [`weak_filter_law`], [`clocked_filter_law`], [`append_law`]). Their runs change
+//! taken one by one in one order ([`clean_filter_law`], [`clean_order_law`], [`weak_filter_law`], [`clocked_filter_law`], [`append_law`]). Their runs change
 //! nothing of what has acted and of what was made, and only add to what was reported ([`clocked_rest_law`]).
 //!
 //! A cell that each of them leaves is as it was at the start of the step, and the writes that are queued leave it so
@@ -14,7 +14,7 @@
 #![tactic(auto)]
 
 ghost use Rattle.clocked_laws.specs.Laws.{CleanBlankLaw, ClockedAllBlankLaw, ClockedBlankLaw, ClockedStartBlankLaw, FlushedBlankLaw, WeakBlankLaw};
-ghost use Rattle.clocked_laws.specs.Laws.{CleanAppendLaw, CleanFilterLaw, ClockedActedLaw, ClockedFilterLaw, ClockedNotesLaw, ClockedRunningLaw, ClockedUnmadeLaw, WeakAppendLaw, WeakFilterLaw};
+ghost use Rattle.clocked_laws.specs.Laws.{CleanAppendLaw, CleanFilterLaw, CleanOrderLaw, ClockedActedLaw, ClockedFilterLaw, ClockedNotesLaw, ClockedRunningLaw, ClockedUnmadeLaw, WeakAppendLaw, WeakFilterLaw};
 ghost use Rattle.clocked_laws.specs.Laws.{ClockedAllKeptLaw, ClockedAllMadeLaw, ClockedContradictsLaw, ClockedFirmLaw, ClockedStartLaw};
 ghost use Rattle.clocked_laws.specs.Laws.{NumbersLaw};
 ghost use Rattle.clocked_laws.specs.Laws.{ClockedAllStillLaw, ClockedFlushLaw, ClockedKeepLaw, ClockedMadeLaw, ClockedMovesLaw, ClockedStartStillLaw, ClockedStillLaw, ClockedStillMadeLaw, ClockedTargetLaw, UnassignedLaw, UntargetedLaw};
@@ -22,6 +22,11 @@ ghost use Rattle.clocked_laws.specs.Laws.{ClockedAllStillLaw, ClockedFlushLaw, C
 /// A Clocked that does not run clean changes nothing among those that do.
 pub fn clean_filter_law()
     ensures { CleanFilterLaw }
+{}
+
+/// Nor does it where those are put in order of their rounds.
+pub fn clean_order_law()
+    ensures { CleanOrderLaw }
 {}
 
 /// A Clocked that does not run weak changes nothing among those that do.

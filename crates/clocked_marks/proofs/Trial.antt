@@ -26,7 +26,7 @@ trial d codes time old new early =
       bound = has_code codes;
       run = runs_of d;
       tables = record { watched = λ p. []; clocked = []; order = []; last = [] };
-      sets = record { moves = λ x. false; trigger = λ p. None; wakes = λ p. None; early = early };
+      sets = record { moves = λ x. false; trigger = λ p. None; round = λ p. 0; wakes = λ p. None; early = early };
       time = time;
       new = new;
       start = record { kept = λ c. Some (old c); acted = λ p. false; notes = [] };

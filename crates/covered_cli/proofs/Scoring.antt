@@ -138,12 +138,12 @@ text_is_scored score sources names text design db before middle has are_names ke
     is_dump = scored.is_dump;
     scores = record {
       accepted = record { bound = scored.score.bound; forced = scored.score.forced };
-      table = scored.score.table.table;
-      head = subst (λ ns. HasHead (design_view design) ns db) are_names scored.score.table.head;
-      listed = scored.score.table.listed;
-      sound = scored.score.table.sound;
-      reasoned = scored.score.table.reasoned;
-      windows = scored.score.table.windows;
+      table = scored.score.table;
+      head = subst (λ ns. HasHead (design_view design) ns db) are_names scored.score.head;
+      listed = scored.score.listed;
+      sound = scored.score.sound;
+      reasoned = scored.score.reasoned;
+      windows = scored.score.windows;
     };
     is_text = is_text;
   };

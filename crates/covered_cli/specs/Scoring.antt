@@ -25,6 +25,7 @@ use Rattle.event_machine.specs.Habit.{Habit}
 use Rattle.dump_score.specs.score_tables.Head.{HasHead}
 use Rattle.dump_score.specs.score_tables.Windows.{windows_of}
 use Rattle.shown_dumps.specs.Bound.{HasNoBaseline, IsBound}
+use Rattle.shown_dumps.specs.Rounds.{ByLastRounds}
 use Rattle.shown_dumps.specs.Shown.{bound_dump}
 use Rattle.signal_binding.specs.Binding.{IsNotDumped}
 use Rattle.signal_binding.specs.Names.{stands_in}
@@ -85,7 +86,7 @@ HasNoScore design instance text = (dump : Dump) → IsDump text dump → IsBound
 -- the dump has the instance, a variable of each input, and a first value of each signal that has a variable, and no forced value differs from its own
 pub record IsAccepted (habit : Habit) (design : Design) (dump : Dump) (instance : List ℕ) : Type 0 where
   pub bound : IsBound design dump instance
-  pub forced : AreForced habit (design_view design) (bound_dump design dump instance)
+  pub forced : ByLastRounds (design_view design) (bound_dump design dump instance) (AreForced habit (design_view design))
 
 -- The table lists each coverage point of the design with these state machines once. In every run of the design by this habit that shows the dump, each
 -- point marked hit is hit and each point marked missed is never hit. Each undetermined point names a signal and a time at which that signal is in doubt for its block.
@@ -94,8 +95,8 @@ pub record IsScoreOf (habit : Habit) (design : Design) (machines : StateMachines
   pub table : IsTable db
   pub head : HasHead (design_view design) names db
   pub listed : ListsPoints (design_view design) machines db
-  pub sound : IsSound (design_view design) habit (bound_dump design dump instance) machines db
-  pub reasoned : IsReasoned (design_view design) habit (bound_dump design dump instance) machines db
+  pub sound : ByLastRounds (design_view design) (bound_dump design dump instance) (λ said. IsSound (design_view design) habit said machines db)
+  pub reasoned : ByLastRounds (design_view design) (bound_dump design dump instance) (λ said. IsReasoned (design_view design) habit said machines db)
   pub windows : db.windows ≡ windows_of (times_of dump.steps)
 
 -- the text is that of a table of the design under the dump of this text

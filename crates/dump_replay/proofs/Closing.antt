@@ -5,7 +5,12 @@ use Rattle.std.proofs.lemmas.Bool.{false≢true}
 use Rattle.four_state.specs.Vector.{Vector}
 use Rattle.known_state.specs.Partly.{Partly}
 use Rattle.cover_points.specs.declared.listing.Points.{Points}
+use Rattle.design_model.proofs.FiniteRounds.{last_rounds_law}
+use Rattle.design_model.specs.Design.{Design as Tree}
+use Rattle.design_model.specs.MayMove.{AreLastRounds}
+use Rattle.design_model.specs.RoundLaws.{read_by}
 use Rattle.design_model.specs.Shows.{BoundDump, IsFirst, IsShown}
+use Rattle.four_state.specs.declared.bit.Bit.{Bit}
 use Rattle.design_model.specs.declared.design.Design.{Design}
 use Rattle.event_machine.specs.Habit.{Habit}
 use Rattle.vcd_reader.specs.Times.{Rises, last_time}
@@ -32,6 +37,7 @@ use Rattle.shown_dumps.specs.Shown.{code_at}
 use Rattle.shown_dumps.proofs.Times.{first_time, next_time}
 use Rattle.shown_dumps.proofs.Values.{rises_front}
 use Rattle.dump_replay.specs.Faults.{IsContradicted, IsReplayFault}
+use Rattle.replay_core.specs.Followed.{HasFollowed as HasFollowedDump}
 use Rattle.dump_replay.specs.Followed.{Follows, HasFollowed, IsReplayOf}
 use Rattle.dump_replay.specs.declared.replay.DumpReplay.{DumpReplay}
 use Rattle.dump_replay.proofs.Facts.{given_at, no_baseline, of_dump}
@@ -46,19 +52,22 @@ later_next : (entries more : List Entry) (last next : ℕ) → Rises None (entri
 later_next entries more last next rises is_last = (subst (λ o. Rises o (Time next ∷ more)) is_last (rises_front None entries (Time next ∷ more) rises).1).0
 
 module _ (x : DumpReplay) (habit : Habit) (design : Design) (points : Points) (vars : List Var) (instance : List ℕ) (entries more : List Entry) (last next : ℕ)
-    (are : AreEntries vars entries) (rises : Rises None (entries ++ Time next ∷ more)) (is_last : last_time None entries ≡ Some last) (f : HasFollowed x habit design points vars instance entries) where
+    (are : AreEntries vars entries) (rises : Rises None (entries ++ Time next ∷ more)) (is_last : last_time None entries ≡ Some last) (f : HasFollowed x habit design points vars instance entries)
+    (rounds : ℕ → ℕ) (by_last : AreLastRounds (made_of x.replay).design (read_by (dump_with (codes_of design vars instance) entries next more) rounds)) where
   abbrev codes : List (Option ℕ)
   codes = codes_of design vars instance
 
   abbrev the_dump : BoundDump
-  the_dump = dump_with codes entries next more
+  the_dump = read_by (dump_with codes entries next more) rounds
 
   -- it is a dump that the replay can follow
   pub dump_for : IsDumpFor (made_of x.replay) the_dump
   dump_for = record {
-    fits = of_dump design vars instance entries more next rises (made_of x.replay).design f.of.design_is f.of.bindable;
+    fits =
+        let fits = of_dump design vars instance entries more next rises (made_of x.replay).design f.of.design_is f.of.bindable in
+        record { rising = fits.rising; signals = fits.signals; inputs = fits.inputs; stays = fits.stays };
     bound = λ s. ap (λ cs. is_some (code_at cs s)) (sym f.of.codes);
-    round = λ t. refl;
+    rounds = by_last;
   }
 
   -- with the values that were given last at the last time
@@ -71,7 +80,7 @@ module _ (x : DumpReplay) (habit : Habit) (design : Design) (points : Points) (v
   only_time new =
       elim (last_cases entries last is_last) [
         | inl one ↦ one
-        | inr (before, ends) ↦ absurd (new_or_started x.replay.phase new (f.taken.follows before last ends (Time next ∷ more) rises).started)
+        | inr (before, ends) ↦ absurd (new_or_started x.replay.phase new (f.taken.follows before last ends (Time next ∷ more) rises rounds by_last).started)
       ]
 
   pub is_first : IsNew x.replay → IsFirst the_dump last × IsShown the_dump last
@@ -85,8 +94,8 @@ module _ (x : DumpReplay) (habit : Habit) (design : Design) (points : Points) (v
         | inr ends ↦ ends
       ]
 
-  pub followed_before : (begun : IsNew x.replay → ⊥) → Follows x.replay the_dump (earlier_time begun).0
-  followed_before begun = f.taken.follows (earlier_time begun).0 last (earlier_time begun).1 (Time next ∷ more) rises
+  pub followed_before : (begun : IsNew x.replay → ⊥) → HasFollowedDump x.replay the_dump (earlier_time begun).0
+  followed_before begun = f.taken.follows (earlier_time begun).0 last (earlier_time begun).1 (Time next ∷ more) rises rounds by_last
 
   pub next_step : (begun : IsNew x.replay → ⊥) → IsNextStep the_dump (earlier_time begun).0 last
   next_step begun =
@@ -102,30 +111,45 @@ module _ (x : DumpReplay) (habit : Habit) (design : Design) (points : Points) (v
 module _ (x : DumpReplay) (y : Replay) (time : ℕ) where
   -- the first step was closed
   pub first_closed : IsNew x.replay → IsReady y → IsStarted y → made_of y ≡ made_of x.replay → given_of y ≡ given_of x.replay
-      → ((dump : BoundDump) → IsDumpFor (made_of x.replay) dump → IsFirst dump time → IsShown dump time → AreGivenAt x.replay dump time → Follows y dump time)
+      → ((dump : BoundDump) → IsDumpFor (made_of x.replay) dump → IsFirst dump time → IsShown dump time → AreGivenAt x.replay dump time → HasFollowedDump y dump time)
       → (habit : Habit) (design : Design) (points : Points) (vars : List Var) (instance : List ℕ) (entries more : List Entry) (next : ℕ) → AreEntries vars entries → Rises None (entries ++ Time next ∷ more) → last_time None entries ≡ Some time
       → HasFollowed x habit design points vars instance entries → Follows y (dump_with (codes_of design vars instance) entries next more) time
-  first_closed new ready started made given closed habit design points vars instance entries more next are rises is_last f =
+  first_closed new ready started made given closed habit design points vars instance entries more next are rises is_last f rounds by_last_y =
+      let by_last = subst (λ m. AreLastRounds m.design (read_by (dump_with (codes_of design vars instance) entries next more) rounds)) made by_last_y in
       let own : HaveValues (made_of y).codes (given_of y) = ready.begun started in
       let have : HaveValues (made_of x.replay).codes (given_of x.replay) = subst (λ m. HaveValues m.codes (given_of x.replay)) made (subst (λ g. HaveValues (made_of y).codes g) given own) in
-      let first = is_first x habit design points vars instance entries more time next are rises is_last f new in
-      closed (dump_with (codes_of design vars instance) entries next more) (dump_for x habit design points vars instance entries more time next are rises is_last f) first.0 first.1 (given_there x habit design points vars instance entries more time next are rises is_last f have)
+      let first = is_first x habit design points vars instance entries more time next are rises is_last f rounds by_last new in
+      closed (read_by (dump_with (codes_of design vars instance) entries next more) rounds) (dump_for x habit design points vars instance entries more time next are rises is_last f rounds by_last) first.0 first.1 (given_there x habit design points vars instance entries more time next are rises is_last f rounds by_last have)
 
   -- a later step was closed
-  pub later_closed : (IsNew x.replay → ⊥)
-      → ((dump : BoundDump) (t : ℕ) → Follows x.replay dump t → IsNextStep dump t time → AreGivenAt x.replay dump time → Follows y dump time)
+  pub later_closed : (IsNew x.replay → ⊥) → made_of y ≡ made_of x.replay
+      → ((dump : BoundDump) (t : ℕ) → HasFollowedDump x.replay dump t → IsNextStep dump t time → AreGivenAt x.replay dump time → HasFollowedDump y dump time)
       → (habit : Habit) (design : Design) (points : Points) (vars : List Var) (instance : List ℕ) (entries more : List Entry) (next : ℕ) → AreEntries vars entries → Rises None (entries ++ Time next ∷ more) → last_time None entries ≡ Some time
       → HasFollowed x habit design points vars instance entries → Follows y (dump_with (codes_of design vars instance) entries next more) time
-  later_closed begun closed habit design points vars instance entries more next are rises is_last f =
-      closed (dump_with (codes_of design vars instance) entries next more) (earlier_time x habit design points vars instance entries more time next are rises is_last f begun).0
-      (followed_before x habit design points vars instance entries more time next are rises is_last f begun) (next_step x habit design points vars instance entries more time next are rises is_last f begun)
-      (given_there x habit design points vars instance entries more time next are rises is_last f (have_values x habit design points vars instance entries more time next are rises is_last f begun))
+  later_closed begun made closed habit design points vars instance entries more next are rises is_last f rounds by_last_y =
+      let by_last = subst (λ m. AreLastRounds m.design (read_by (dump_with (codes_of design vars instance) entries next more) rounds)) made by_last_y in
+      closed (read_by (dump_with (codes_of design vars instance) entries next more) rounds) (earlier_time x habit design points vars instance entries more time next are rises is_last f rounds by_last begun).0
+      (followed_before x habit design points vars instance entries more time next are rises is_last f rounds by_last begun) (next_step x habit design points vars instance entries more time next are rises is_last f rounds by_last begun)
+      (given_there x habit design points vars instance entries more time next are rises is_last f rounds by_last (have_values x habit design points vars instance entries more time next are rises is_last f rounds by_last begun))
+
+-- what refutes a dump goes by its times and values, and not by the rounds of its steps
+plain : (d : Tree) (h : Habit) (dump : BoundDump) (rounds : ℕ → ℕ) (t s : ℕ) (dumped : Vector) (computed : List (Option Bit)) → IsRefuted d h (read_by dump rounds) t s dumped computed → IsRefuted d h dump t s dumped computed
+plain d h dump rounds t s dumped computed is = record {
+  contradicted = λ r showing. is.contradicted r (record { is_run = showing.is_run; shows = record { starts = showing.shows.starts; shows = showing.shows.shows } });
+  says = is.says;
+  differ = is.differ;
+}
+
+-- each dump can be read by its last rounds
+some_rounds : (x : DumpReplay) (dump : BoundDump) → IsReady x.replay → (rounds : ℕ → ℕ) × AreLastRounds (made_of x.replay).design (read_by dump rounds)
+some_rounds x dump ready = last_rounds_law (made_of x.replay).design ready.replayable.lawful dump
 
 -- what a contradiction of the dump of the entries says of them
-refuted_entries : (x : DumpReplay) (habit : Habit) (design : Design) (points : Points) (vars : List Var) (instance : List ℕ) (entries : List Entry) (time next s end : ℕ) (dumped : Vector) (computed : Partly) → last_time None entries ≡ Some time
-    → IsReplayOf x habit design points vars instance → s < length (made_of x.replay).design.signals → (end ≡ time) × IsRefuted (made_of x.replay).design (habit_of (made_of x.replay).habit) (dump_with (codes_of design vars instance) entries next []) time s dumped computed.bits
+refuted_entries : (x : DumpReplay) (habit : Habit) (design : Design) (points : Points) (vars : List Var) (instance : List ℕ) (entries : List Entry) (time next s end : ℕ) (dumped : Vector) (computed : Partly) (rounds : ℕ → ℕ) → last_time None entries ≡ Some time
+    → IsReplayOf x habit design points vars instance → s < length (made_of x.replay).design.signals → (end ≡ time) × IsRefuted (made_of x.replay).design (habit_of (made_of x.replay).habit) (read_by (dump_with (codes_of design vars instance) entries next []) rounds) time s dumped computed.bits
     → IsContradicted habit design vars instance (entries ++ Time next ∷ []) s end dumped computed.bits
-refuted_entries x habit design points vars instance entries time next s end dumped computed is_last of listed (same, is) =
+refuted_entries x habit design points vars instance entries time next s end dumped computed rounds is_last of listed (same, by) =
+    let is = plain (made_of x.replay).design (habit_of (made_of x.replay).habit) (dump_with (codes_of design vars instance) entries next []) rounds time s dumped computed.bits by in
     subst (λ t. IsContradicted habit design vars instance (entries ++ Time next ∷ []) s t dumped computed.bits) (sym same) (record {
       bindable = of.bindable;
       ends = record { front = entries; next = next; are = refl; last = is_last };
@@ -149,35 +173,39 @@ module _ {T : Type 0} (x : DumpReplay) (result : Result T ReplayFault) (time : �
           → HasFollowed x habit design points vars instance entries → IsReplayFault habit design vars instance (entries ++ Time next ∷ []) g)
       go (Ok value) is c n = tt
       go (Err (fault.NoBaseline s)) is c n = λ habit design points vars instance entries next are rises is_last f.
-          no_baseline design vars instance entries time next (made_of x.replay).codes (given_of x.replay) s f.of.codes f.of.bindable (only_time x habit design points vars instance entries [] time next are rises is_last f new) f.taken.given (missing s new is)
+          let some = some_rounds x (dump_with (codes_of design vars instance) entries next []) f.of.ready in let rounds = some.0 in let by_last = some.1 in
+          no_baseline design vars instance entries time next (made_of x.replay).codes (given_of x.replay) s f.of.codes f.of.bindable (only_time x habit design points vars instance entries [] time next are rises is_last f rounds by_last new) f.taken.given (missing s new is)
       go (Err (fault.Contradiction s end dumped computed)) is c n = λ habit design points vars instance entries next are rises is_last f.
-          let first = is_first x habit design points vars instance entries [] time next are rises is_last f new in
-          refuted_entries x habit design points vars instance entries time next s end dumped computed is_last f.of n
-          (c (dump_with (codes_of design vars instance) entries next []) new (dump_for x habit design points vars instance entries [] time next are rises is_last f) first.0 first.1
-          (given_there x habit design points vars instance entries [] time next are rises is_last f (valued s end dumped computed new is)))
+          let some = some_rounds x (dump_with (codes_of design vars instance) entries next []) f.of.ready in let rounds = some.0 in let by_last = some.1 in
+          let first = is_first x habit design points vars instance entries [] time next are rises is_last f rounds by_last new in
+          refuted_entries x habit design points vars instance entries time next s end dumped computed rounds is_last f.of n
+          (c (read_by (dump_with (codes_of design vars instance) entries next []) rounds) new (dump_for x habit design points vars instance entries [] time next are rises is_last f rounds by_last) first.0 first.1
+          (given_there x habit design points vars instance entries [] time next are rises is_last f rounds by_last (valued s end dumped computed new is)))
 
   -- a later step was refused
   pub later_refused : (IsNew x.replay → ⊥)
-      → IfErr result (λ f. (dump : BoundDump) (t : ℕ) → Follows x.replay dump t → IsNextStep dump t time → AreGivenAt x.replay dump time → IsContradiction (made_of x.replay).design (habit_of (made_of x.replay).habit) dump time f)
+      → IfErr result (λ f. (dump : BoundDump) (t : ℕ) → HasFollowedDump x.replay dump t → IsNextStep dump t time → AreGivenAt x.replay dump time → IsContradiction (made_of x.replay).design (habit_of (made_of x.replay).habit) dump time f)
       → IfErr result (λ f. signal_of f < length (made_of x.replay).design.signals)
       → IfErr result (λ g. (habit : Habit) (design : Design) (points : Points) (vars : List Var) (instance : List ℕ) (entries : List Entry) (next : ℕ) → AreEntries vars entries → Rises None (entries ++ Time next ∷ []) → last_time None entries ≡ Some time
       → HasFollowed x habit design points vars instance entries → IsReplayFault habit design vars instance (entries ++ Time next ∷ []) g)
   later_refused begun contradiction named = go result contradiction named
     where
-      go : (r : Result T ReplayFault) → IfErr r (λ f. (dump : BoundDump) (t : ℕ) → Follows x.replay dump t → IsNextStep dump t time → AreGivenAt x.replay dump time → IsContradiction (made_of x.replay).design (habit_of (made_of x.replay).habit) dump time f)
+      go : (r : Result T ReplayFault) → IfErr r (λ f. (dump : BoundDump) (t : ℕ) → HasFollowedDump x.replay dump t → IsNextStep dump t time → AreGivenAt x.replay dump time → IsContradiction (made_of x.replay).design (habit_of (made_of x.replay).habit) dump time f)
           → IfErr r (λ f. signal_of f < length (made_of x.replay).design.signals)
           → IfErr r (λ g. (habit : Habit) (design : Design) (points : Points) (vars : List Var) (instance : List ℕ) (entries : List Entry) (next : ℕ) → AreEntries vars entries → Rises None (entries ++ Time next ∷ []) → last_time None entries ≡ Some time
           → HasFollowed x habit design points vars instance entries → IsReplayFault habit design vars instance (entries ++ Time next ∷ []) g)
       go (Ok value) c n = tt
       go (Err (fault.NoBaseline s)) c n = λ habit design points vars instance entries next are rises is_last f.
-          absurd (c (dump_with (codes_of design vars instance) entries next []) (earlier_time x habit design points vars instance entries [] time next are rises is_last f begun).0
-          (followed_before x habit design points vars instance entries [] time next are rises is_last f begun) (next_step x habit design points vars instance entries [] time next are rises is_last f begun)
-          (given_there x habit design points vars instance entries [] time next are rises is_last f (have_values x habit design points vars instance entries [] time next are rises is_last f begun)))
+          let some = some_rounds x (dump_with (codes_of design vars instance) entries next []) f.of.ready in let rounds = some.0 in let by_last = some.1 in
+          absurd (c (read_by (dump_with (codes_of design vars instance) entries next []) rounds) (earlier_time x habit design points vars instance entries [] time next are rises is_last f rounds by_last begun).0
+          (followed_before x habit design points vars instance entries [] time next are rises is_last f rounds by_last begun) (next_step x habit design points vars instance entries [] time next are rises is_last f rounds by_last begun)
+          (given_there x habit design points vars instance entries [] time next are rises is_last f rounds by_last (have_values x habit design points vars instance entries [] time next are rises is_last f rounds by_last begun)))
       go (Err (fault.Contradiction s end dumped computed)) c n = λ habit design points vars instance entries next are rises is_last f.
-          refuted_entries x habit design points vars instance entries time next s end dumped computed is_last f.of n
-          (c (dump_with (codes_of design vars instance) entries next []) (earlier_time x habit design points vars instance entries [] time next are rises is_last f begun).0
-          (followed_before x habit design points vars instance entries [] time next are rises is_last f begun) (next_step x habit design points vars instance entries [] time next are rises is_last f begun)
-          (given_there x habit design points vars instance entries [] time next are rises is_last f (have_values x habit design points vars instance entries [] time next are rises is_last f begun)))
+          let some = some_rounds x (dump_with (codes_of design vars instance) entries next []) f.of.ready in let rounds = some.0 in let by_last = some.1 in
+          refuted_entries x habit design points vars instance entries time next s end dumped computed rounds is_last f.of n
+          (c (read_by (dump_with (codes_of design vars instance) entries next []) rounds) (earlier_time x habit design points vars instance entries [] time next are rises is_last f rounds by_last begun).0
+          (followed_before x habit design points vars instance entries [] time next are rises is_last f rounds by_last begun) (next_step x habit design points vars instance entries [] time next are rises is_last f rounds by_last begun)
+          (given_there x habit design points vars instance entries [] time next are rises is_last f rounds by_last (have_values x habit design points vars instance entries [] time next are rises is_last f rounds by_last begun)))
 
 -- ---- what a result says once it is known
 

@@ -4,12 +4,14 @@ use Rattle.cover_marks.specs.Marks.{AreMarksOf}
 use Rattle.cover_marks.specs.declared.marks.Marks.{Marks}
 use Rattle.cover_points.specs.declared.listing.Points.{Points}
 use Rattle.design_model.specs.Design.{In}
+use Rattle.design_model.specs.MayMove.{AreLastRounds}
+use Rattle.design_model.specs.RoundLaws.{read_by}
 use Rattle.design_model.specs.Shows.{BoundDump, IsShownOf, IsWindowOf}
 use Rattle.design_model.specs.View.{design_view}
 use Rattle.design_model.specs.declared.design.Design.{Design}
 use Rattle.event_machine.specs.Habit.{Habit}
 use Rattle.replay_core.specs.mark_laws.Marked.{AreVerdicts}
-use Rattle.replay_core.specs.Followed.{AreFinal}
+use Rattle.replay_core.specs.Followed.{AreFinal, HasFollowed as HasFollowedDump}
 use Rattle.replay_core.specs.Parts.{IsNew, made_of}
 use Rattle.replay_core.specs.replay_follows.Laws.{IsLastStep}
 use Rattle.replay_core.specs.wake_laws.Laws.{habit_of}
@@ -27,11 +29,11 @@ use Rattle.dump_replay.specs.declared.replay.DumpReplay.{DumpReplay}
 use Rattle.dump_replay.proofs.Ends.{last_step, never_shown, no_window}
 use Rattle.dump_replay.proofs.More.{last_cases, no_times}
 
-module _ (x : DumpReplay) (marks : Marks) (of : AreMarksOf (made_of x.replay).points marks) (followed : (dump : BoundDump) (t : ℕ) → Follows x.replay dump t → IsLastStep dump t → AreFinal (made_of x.replay) dump marks)
+module _ (x : DumpReplay) (marks : Marks) (of : AreMarksOf (made_of x.replay).points marks) (followed : (dump : BoundDump) (t : ℕ) → HasFollowedDump x.replay dump t → IsLastStep dump t → AreFinal (made_of x.replay) dump marks)
     (silent : IsNew x.replay → AreVerdicts (made_of x.replay).design (made_of x.replay).points [] marks.verdicts) (habit : Habit) (design : Design) (points : Points) (vars : List Var) (instance : List ℕ) (entries : List Entry) (rises : Rises None entries)
-    (f : HasFollowed x habit design points vars instance entries) where
+    (f : HasFollowed x habit design points vars instance entries) (rounds : ℕ → ℕ) (by_last : AreLastRounds (design_view design) (read_by (dump_of (codes_of design vars instance) (steps_of entries)) rounds)) where
   abbrev the_dump : BoundDump
-  the_dump = dump_of (codes_of design vars instance) (steps_of entries)
+  the_dump = read_by (dump_of (codes_of design vars instance) (steps_of entries)) rounds
 
   marks_of : AreMarksOf points marks
   marks_of = subst (λ ps. AreMarksOf ps marks) f.of.points_are of
@@ -51,7 +53,8 @@ module _ (x : DumpReplay) (marks : Marks) (of : AreMarksOf (made_of x.replay).po
   last_closed : (before last : ℕ) → EndsIn (times_in entries) before last → AreFinalMarks (design_view design) habit the_dump points marks
   last_closed before last ends =
       let all : entries ++ [] ≡ entries = append-nil entries in
-      let follows : Follows x.replay the_dump before = subst (λ es. Follows x.replay (dump_of (codes_of design vars instance) (steps_of es)) before) all (f.taken.follows before last ends [] (subst (Rises None) (sym all) rises)) in
+      let follows : HasFollowedDump x.replay the_dump before =
+      subst (λ es. Follows x.replay (dump_of (codes_of design vars instance) (steps_of es)) before) all (f.taken.follows before last ends [] (subst (Rises None) (sym all) rises)) rounds (subst (λ d. AreLastRounds d the_dump) (sym f.of.design_is) by_last) in
       let is_last : IsLastStep the_dump before =
       λ u after window listed. last_step (times_in entries) before last (times_rise entries rises) ends u after (subst (λ ts. IsWindowOf ts u) (times_are entries) window) (subst (In u) (times_are entries) listed) in
       let final : AreFinal (made_of x.replay) the_dump marks = followed the_dump before follows is_last in

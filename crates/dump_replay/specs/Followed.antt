@@ -22,6 +22,7 @@ use Rattle.code_values.specs.Values.{value_of}
 use Rattle.score_tables.specs.Scored.{AreScored}
 use Rattle.dump_replay.specs.Taken.{HasTaken}
 use Rattle.dump_replay.specs.Windows.{first_of}
+use Rattle.shown_dumps.specs.Rounds.{ByLastRounds}
 use Rattle.bound_codes.specs.Codes.{AreWanted, IsCoded}
 use Rattle.shown_dumps.specs.Said.{times_in}
 use Rattle.dump_replay.specs.declared.replay.DumpReplay.{DumpReplay}
@@ -37,9 +38,9 @@ pub record IsReplayOf (x : DumpReplay) (habit : Habit) (design : Design) (points
   pub within : (code : ℕ) → IsCoded (codes_of design vars instance) code → code < length (given_of x.replay)
   pub wanted : AreWanted (codes_of design vars instance) x.wanted.items
 
--- the replay has closed the steps of a dump up to a time
+-- the replay has closed the steps of a dump up to a time, each by its last round
 abbrev pub Follows : Replay → BoundDump → ℕ → Type 0
-Follows x dump t = HasFollowedDump x dump t
+Follows x dump t = ByLastRounds (made_of x).design dump (λ b. HasFollowedDump x b t)
 
 -- it was given these entries, and has followed each dump that begins with them up to the last time but one
 pub record HasFollowed (x : DumpReplay) (habit : Habit) (design : Design) (points : Points) (vars : List Var) (instance : List ℕ) (entries : List Entry) : Type 0 where

@@ -11,6 +11,7 @@ ghost use Rattle.replay_core.specs.Fits.{IsReplayable};
 ghost use Rattle.replay_core.specs.Parts.{IsReady, IsStarted, given_of, made_of};
 ghost use Rattle.replay_core.specs.wake_laws.Laws.{habit_of};
 ghost use Rattle.shown_dumps.specs.Laws.{dump_with};
+ghost use Rattle.shown_dumps.specs.Rounds.{ByLastRounds};
 ghost use Rattle.shown_dumps.specs.Shown.{code_at, dump_of};
 ghost use Rattle.signal_binding.specs.Binding.{IsBindFault, codes_of};
 ghost use Rattle.vcd_reader.specs.Dump.{steps_of};
@@ -186,7 +187,7 @@ impl<'a> DumpReplay<'a> {
         requires ready { IsReady self.replay }
         ensures { (habit : TheHabit) (design : TheDesign) (points : ThePoints) (vars : List TheVar) (instance : List ℕ) (entries : List Entry) → Rises None entries
             → HasFollowed self.entry habit design points vars instance entries
-            → AreFinalMarks (design_view design) habit (dump_of (codes_of design vars instance) (steps_of entries)) points result }
+            → ByLastRounds (design_view design) (dump_of (codes_of design vars instance) (steps_of entries)) (λ dump. AreFinalMarks (design_view design) habit dump points result) }
     {
         let DumpReplay {
             replay,

@@ -8,7 +8,9 @@ use Rattle.cover_points.specs.declared.listing.Points.{Points}
 use Rattle.coverage_db.specs.Table.{AreWindows}
 use Rattle.coverage_db.specs.declared.db.Db.{Db}
 use Rattle.coverage_db.specs.declared.window.Window.{Window}
+use Rattle.design_model.proofs.FiniteRounds.{last_rounds_law}
 use Rattle.design_model.specs.Design.{In}
+use Rattle.design_model.specs.Lawful.{IsLawfulDesign}
 use Rattle.design_model.specs.Shows.{AreRising}
 use Rattle.cover_points.specs.design_machines.state_machines.Machines.{StateMachines}
 use Rattle.design_model.specs.View.{design_view}
@@ -23,6 +25,7 @@ use Rattle.dump_replay.specs.score_tables.Windows.{windows_of}
 use Rattle.dump_replay.proofs.score_tables.Windows.{windows_fit}
 use Rattle.dump_replay.proofs.shown_dumps.Times.{times_are, times_rise as in_rises}
 use Rattle.dump_replay.specs.shown_dumps.Bound.{IsBound}
+use Rattle.dump_replay.specs.shown_dumps.Rounds.{ByLastRounds}
 use Rattle.dump_replay.specs.shown_dumps.Said.{times_in}
 use Rattle.dump_replay.specs.shown_dumps.Shown.{bound_dump, dump_of}
 use Rattle.signal_binding.specs.Binding.{codes_of}
@@ -67,12 +70,25 @@ module _ (replay : DumpReplay) (habit : Habit) (design : Design) (points : Point
     first_values = λ two s. scored.followed.taken.based (subst (λ n. 2 ≤ n) (sym (length-map (steps_of scored.b.items) (λ step. step.time)) ∙ ap length (times_are scored.b.items)) two) s;
   }
 
-  pub scored_file : (name : List ℕ) (before : Outside) (machines : StateMachines) (sources : List (List ℕ)) (marks : Marks) (db : Db) → IsFile before name text → AreFinalMarks (design_view design) habit (dump_of (codes_of design vars instance) (steps_of scored.b.items)) points marks
-      → IsScoreTable (design_view design) habit (bound_dump design said instance) machines sources db → IsScoreOfFile name before habit design machines sources instance db
-  scored_file name before machines sources marks db file final table = record {
+  pub scored_file : (name : List ℕ) (before : Outside) (machines : StateMachines) (sources : List (List ℕ)) (marks : Marks) (db : Db) → IsFile before name text → IsLawfulDesign (design_view design)
+      → ByLastRounds (design_view design) (dump_of (codes_of design vars instance) (steps_of scored.b.items)) (λ dump. AreFinalMarks (design_view design) habit dump points marks)
+      → ByLastRounds (design_view design) (bound_dump design said instance) (λ dump. IsScoreTable (design_view design) habit dump machines sources db) → IsScoreOfFile name before habit design machines sources instance db
+  scored_file name before machines sources marks db file lawful final table =
+      let some = last_rounds_law (design_view design) lawful (bound_dump design said instance) in
+      let one = table some.0 some.1 in
+      record {
     text = text;
     dump = said;
     is = file;
     is_dump = record { b = scored.b; ends = scored.ends; vars = sym scored.vars_are; steps = refl };
-    score = record { bound = scored_bound; forced = final.forced; table = table };
+    score = record {
+      bound = scored_bound;
+      forced = λ rounds by_last. (final rounds by_last).forced;
+      table = one.table;
+      head = one.head;
+      listed = one.listed;
+      sound = λ rounds by_last. (table rounds by_last).sound;
+      reasoned = λ rounds by_last. (table rounds by_last).reasoned;
+      windows = one.windows;
+    };
   }

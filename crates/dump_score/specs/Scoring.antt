@@ -2,6 +2,7 @@
 use Rattle.std.specs.Prelude.{◌≡◌, ◌⊎◌, ◌<◌, ◌≤◌, ℕ, false, List, [], ◌∷◌, ◌++◌, length, slice_range}
 use Rattle.cov_host.specs.Outside.{Outside}
 use Rattle.cover_points.specs.declared.listing.Points.{Points}
+use Rattle.coverage_db.specs.Table.{IsTable}
 use Rattle.coverage_db.specs.declared.db.Db.{Db}
 use Rattle.design_model.specs.Clear.{IsForced}
 use Rattle.design_model.specs.Design.{Design as Tree, signal_bits}
@@ -14,7 +15,12 @@ use Rattle.dump_replay.specs.declared.replay.DumpReplay.{DumpReplay}
 use Rattle.entry_laws.specs.Entries.{AreEntries}
 use Rattle.event_machine.specs.Habit.{Habit}
 use Rattle.four_state.specs.declared.bit.Bit.{Bit}
-use Rattle.dump_replay.specs.score_tables.Scored.{IsScoreTable}
+use Rattle.dump_replay.specs.score_tables.Head.{HasHead}
+use Rattle.dump_replay.specs.score_tables.Windows.{windows_of}
+use Rattle.dump_replay.specs.shown_dumps.Rounds.{ByLastRounds}
+use Rattle.dump_replay.specs.table_laws.Rows.{ListsPoints}
+use Rattle.dump_replay.specs.verdict_laws.Reasoned.{IsReasoned}
+use Rattle.dump_replay.specs.verdict_laws.Sound.{IsSound}
 use Rattle.dump_replay.specs.shown_dumps.Bound.{IsBound}
 use Rattle.dump_replay.specs.shown_dumps.Shown.{bound_dump}
 use Rattle.vcd_reader.specs.Dump.{Dump, IsDump}
@@ -110,11 +116,16 @@ pub record IsOpen (name : List ℕ) (before now : Outside) (piece : List ℕ) (s
 abbrev pub AreForced : Habit → Tree → BoundDump → Type 0
 AreForced h d dump = (t s : ℕ) (bits : List Bit) → IsForced d h dump t s bits → signal_bits d (dump.values t) s ≡ bits
 
--- the design is bound to the dump, no forced value differs from the dump's, and the table is that of the design with these state machines under the dump
+-- the design is bound to the dump, no forced value differs from the dump's, and the table lists the points of the design with these state machines and is sound and reasoned under the dump
 pub record IsScoreUnder (habit : Habit) (design : Design) (machines : StateMachines) (dump : Dump) (sources : List (List ℕ)) (instance : List ℕ) (db : Db) : Type 0 where
   pub bound : IsBound design dump instance
-  pub forced : AreForced habit (design_view design) (bound_dump design dump instance)
-  pub table : IsScoreTable (design_view design) habit (bound_dump design dump instance) machines sources db
+  pub forced : ByLastRounds (design_view design) (bound_dump design dump instance) (AreForced habit (design_view design))
+  pub table : IsTable db
+  pub head : HasHead (design_view design) sources db
+  pub listed : ListsPoints (design_view design) machines db
+  pub sound : ByLastRounds (design_view design) (bound_dump design dump instance) (λ said. IsSound (design_view design) habit said machines db)
+  pub reasoned : ByLastRounds (design_view design) (bound_dump design dump instance) (λ said. IsReasoned (design_view design) habit said machines db)
+  pub windows : db.windows ≡ windows_of (bound_dump design dump instance).times
 
 -- so it is under the dump in the file
 pub record IsScoreOfFile (name : List ℕ) (before : Outside) (habit : Habit) (design : Design) (machines : StateMachines) (sources : List (List ℕ)) (instance : List ℕ) (db : Db) : Type 0 where

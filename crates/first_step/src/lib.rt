@@ -14,6 +14,6 @@ mod runs;
 pub use begin::begin_first;
 pub use laws::first_example;
 pub use settling::{
-    Found, ProcessRows, SavedValues, Scratch, StepValues, Wake, new_store_law, wake_rows, wakes_of,
+    Found, ProcessRows, SavedValues, Scratch, StepValues, Wake, new_store_law, wake_rows,
 };
 pub use step_check::{check, check_rows};

@@ -8,6 +8,7 @@ use Rattle.shown_dumps.specs.Shown.{bound_dump, dump_of}
 use Rattle.signal_binding.specs.Binding.{IsBindable, codes_of}
 use Rattle.vcd_reader.proofs.RisingTimes.{times_rise}
 use Rattle.vcd_reader.specs.Dump.{Dump, IsDump}
+use Rattle.design_model.specs.RoundLaws.{read_by}
 use Rattle.input_laws.specs.Exact.{ExactLaw}
 use Rattle.input_laws.specs.Shown.{NoContradictionLaw, ShownLaw}
 use Rattle.input_laws.proofs.Exact.{exact_table, never_contradicted, some_shown}
@@ -27,5 +28,8 @@ dump_is design text instance dump is bindable =
     subst (λ steps. IsDumpOf (design_view design) (dump_of (codes_of design dump.vars instance) steps)) (sym is.steps) (is_dump design dump.vars instance is.b.items bindable (times_rise text is.b is.ends))
 
 pub exact_law : ExactLaw
-exact_law design text instance dump db inputs lawful is bindable listed sound reasoned =
-    exact_table (design_view design) lawful inputs (bound_dump design dump instance) (dump_is design text instance dump is bindable) db listed sound reasoned
+exact_law design text instance dump db inputs lawful is bindable listed sound reasoned = λ rounds by_last.
+    let said = bound_dump design dump instance in
+    let fits = dump_is design text instance dump is bindable in
+    let read : IsDumpOf (design_view design) (read_by said rounds) = record { rising = fits.rising; signals = fits.signals; inputs = fits.inputs; stays = fits.stays } in
+    exact_table (design_view design) lawful inputs (read_by said rounds) read db listed (sound rounds by_last) (reasoned rounds by_last)

@@ -16,6 +16,7 @@ use Rattle.design_model.specs.declared.design.Design.{Design}
 use Rattle.design_model.specs.declared.point.Point.{Point}
 use Rattle.design_model.specs.declared.point.Point.TheVariants.{Toggle as toggle_point}
 use Rattle.event_machine.specs.Habit.{Free}
+use Rattle.shown_dumps.specs.Rounds.{ByLastRounds}
 use Rattle.shown_dumps.specs.Shown.{bound_dump}
 use Rattle.signal_binding.specs.Binding.{IsBindable}
 use Rattle.vcd_reader.specs.Dump.{Dump, IsDump}
@@ -52,5 +53,6 @@ abbrev pub ExactLaw : Type 0
 ExactLaw =
     (design : Design) (text instance : List ℕ) (dump : Dump) (db : Db) → HasInputsAlone (design_view design) → IsLawfulDesign (design_view design)
     → IsDump text dump → IsBindable design dump.vars instance → ListsPoints (design_view design) no_machines db
-    → IsSound (design_view design) Free (bound_dump design dump instance) no_machines db → IsReasoned (design_view design) Free (bound_dump design dump instance) no_machines db
-    → IsExact (design_view design) (bound_dump design dump instance) db
+    → ByLastRounds (design_view design) (bound_dump design dump instance) (λ said. IsSound (design_view design) Free said no_machines db)
+    → ByLastRounds (design_view design) (bound_dump design dump instance) (λ said. IsReasoned (design_view design) Free said no_machines db)
+    → ByLastRounds (design_view design) (bound_dump design dump instance) (λ said. IsExact (design_view design) said db)

@@ -62,7 +62,7 @@ step =
       bound = λ s. nat_lt s 4;
       run = runs_of pipe;
       tables = record { watched = λ p. []; clocked = []; order = []; last = [] };
-      sets = record { moves = λ x. x == 1; trigger = λ p. None; wakes = λ p. None; early = λ p x. false };
+      sets = record { moves = λ x. x == 1; trigger = λ p. None; round = λ p. 0; wakes = λ p. None; early = λ p x. false };
       time = 5;
       new = pipe_values Zero One One X X;
       start = replay kept [];

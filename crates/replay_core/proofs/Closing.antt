@@ -24,7 +24,7 @@ use Rattle.replay_follows.specs.Follows.{Subject}
 use Rattle.replay_follows.specs.Laws.{due_at, next_replay}
 use Rattle.replay_follows.proofs.Steps.{against, closes, due}
 use Rattle.replay_model.proofs.Bits.{any_in}
-use Rattle.replay_model.specs.Sets.{AreFirstSets}
+use Rattle.replay_model.specs.Sets.{AreSets}
 use Rattle.replay_model.specs.Step.{Closing, Replay, all_run, contradicts, is_touched}
 use Rattle.first_step.specs.replay_sets.SetsOf.{sets_of}
 use Rattle.step_start.proofs.step_parts.clocked_laws.Moved.{moves_are}
@@ -51,7 +51,10 @@ use Rattle.step_marks.specs.toggle_laws.Turns.{MarksInTurn}
 use Rattle.first_step.specs.wake_bits.Wakes.{AreWakeRows}
 use Rattle.first_step.specs.wake_bits.declared.wakes.Wake.{Wake}
 use Rattle.step_words.specs.Words.{HasWords}
-use Rattle.wake_laws.specs.Laws.{HasNoWriters, habit_of}
+use Rattle.wake_laws.specs.Laws.{habit_of}
+use Rattle.wake_laws.specs.OfDesign.{AreWritersOf}
+use Rattle.std.proofs.Math.Path.{fun_ext}
+use Rattle.replay_core.specs.Fits.{HasWriters}
 use Rattle.body_store.specs.body_calls.Own.{is_in}
 use Rattle.replay_core.specs.Closing.{IsDueAt}
 use Rattle.replay_core.specs.Codes.{flags_of}
@@ -79,7 +82,7 @@ module _ (m : Made) (dump : BoundDump) (t : ℕ) (a : Replay) (x : Following) (a
   due_step = due f t a x.parts at.follows.parts at.given
 
   -- a step that something contradicts refutes the dump
-  refuted : (wakes : WakeState) (early : ℕ → List ℕ) (c : Cell) (found : Difference) → AreFirstSets m.design (habit_of m.habit) dump (suc t) (sets_of wakes early) → contradicts (step wakes early) c ≡ true
+  refuted : (wakes : WakeState) (early : ℕ → List ℕ) (c : Cell) (found : Difference) → AreSets m.design (habit_of m.habit) dump (suc t) (sets_of wakes early) → contradicts (step wakes early) c ≡ true
       → found.dumped.bits ≡ signal_bits m.design (dump.values (suc t)) found.signal → Rattle.known_state.specs.Partly.allows_bits found.computed.bits found.dumped.bits ≡ false
       → IsRefuted m.design (habit_of m.habit) dump (suc t) found.signal found.dumped found.computed.bits
   refuted wakes early c found sets differs dumped differ = record {
@@ -107,7 +110,7 @@ module _ (m : Made) (dump : BoundDump) (t : ℕ) (a : Replay) (x : Following) (a
       ordered = many;
       listed = begun.list;
       step = λ p i.
-          steps_are m.design (habit_of m.habit) dump m.tables (sets_of wakes early) t a (flags_of m.codes) m.codes x.parts.values x.parts.sets watched rows changed due_step.changes due_step.tabled begun.sets.sets same are
+          steps_are m.design (habit_of m.habit) dump m.tables (sets_of wakes early) t a (flags_of m.codes) m.codes x.parts.values x.parts.sets watched rows changed due_step.changes due_step.tabled begun.sets same are
           due_step.known found p (settles_in m.design dump.bound m.tables due_step.tabled p (touched_in p i).0);
     }
 
@@ -123,7 +126,7 @@ module _ (m : Made) (dump : BoundDump) (t : ℕ) (a : Replay) (x : Following) (a
           record {
             thing = y.0;
             watched = or_left (is_level (process_at m.design p) y.0) (has_event_of (process_at m.design p) y.0) ((due_step.tabled.watched p y.0).0 y.1);
-            moves = (begun.sets.sets.moves y.0).0 y.2;
+            moves = (begun.sets.moves y.0).0 y.2;
           },
         )
 
@@ -134,9 +137,9 @@ module _ (m : Made) (dump : BoundDump) (t : ℕ) (a : Replay) (x : Following) (a
         values = over.values;
         still = over.still;
         dump = begun.still;
-        moved = moves_are m.design (habit_of m.habit) dump (runs_of m.design) m.tables (sets_of wakes early) t a due_step.changes.lawful due_step.tabled begun.sets.sets;
+        moved = moves_are m.design (habit_of m.habit) dump (runs_of m.design) m.tables (sets_of wakes early) t a due_step.changes.lawful due_step.tabled begun.sets;
         agree = begun.agree;
-        drives = targets_move m.design (habit_of m.habit) dump (runs_of m.design) m.tables (sets_of wakes early) t a due_step.tabled begun.sets.sets;
+        drives = targets_move m.design (habit_of m.habit) dump (runs_of m.design) m.tables (sets_of wakes early) t a due_step.tabled begun.sets;
         lawful = due_step.changes.lawful;
         tabled = due_step.tabled;
         running = λ p. (
@@ -182,20 +185,20 @@ module _ (m : Made) (dump : BoundDump) (t : ℕ) (a : Replay) (x : Following) (a
       }
 
       -- where nothing was found, and the toggles and the machines are marked, the dump is followed up to the end of the step
-      pub followed : (y : Following) (middle : Marks) → y.parts.sets ≡ wakes → y.parts.store ≡ last → y.parts.acted ≡ flags → y.parts.values.closed ≡ x.parts.values.last → IsOfDesign m.design (flags_of m.codes) y.parts.sets → HasNoWriters y.parts.sets
+      pub followed : (y : Following) (middle : Marks) → y.parts.sets ≡ wakes → y.parts.store ≡ last → y.parts.acted ≡ flags → y.parts.values.closed ≡ x.parts.values.last → IsOfDesign m.design (flags_of m.codes) y.parts.sets → HasWriters m.design m.codes y.parts.sets
           → ((c : Cell) → contradicts (step wakes early) c ≡ false) → MarksInTurn (step wakes early) m.points wakes.moves marks.verdicts middle.verdicts → IsSeenAfter (step wakes early) m.points y.parts.seen middle
           → AreMarksOf m.points y.parts.marks → MarksMachines (step wakes early) m.points x.parts.told middle.verdicts y.parts.marks.verdicts
           → HasWords m.design (all_run (step wakes early)).kept y.ranges y.words → (b : Replay) × HasFollows f (suc t) b y
       followed y middle sets store acted values of writers none turns seen marked machines words = (
         next_replay f t a x.parts y.parts.sets early,
         record {
-          parts = closes f t a x.parts y.parts early at.follows.parts at.given at.window at.listed first of writers nothing values rest told;
+          parts = closes f t a x.parts y.parts early at.follows.parts at.given at.window at.listed first of (subst (λ b. AreWritersOf m.design b y.parts.sets.tables.things y.parts.sets.writers) (sym (fun_ext at.follows.parts.subject.bound)) writers) nothing values rest told;
           words = subst (λ ws. HasWords m.design (all_run (step ws early)).kept y.ranges y.words) (sym sets) words;
         },
       )
         where
-          first : AreFirstSets m.design (habit_of m.habit) dump (suc t) (sets_of y.parts.sets early)
-          first = subst (λ ws. AreFirstSets m.design (habit_of m.habit) dump (suc t) (sets_of ws early)) (sym sets) begun.sets
+          first : AreSets m.design (habit_of m.habit) dump (suc t) (sets_of y.parts.sets early)
+          first = subst (λ ws. AreSets m.design (habit_of m.habit) dump (suc t) (sets_of ws early)) (sym sets) begun.sets
 
           nothing : (c : Cell) → contradicts (step y.parts.sets early) c ≡ false
           nothing = subst (λ ws. (c : Cell) → contradicts (step ws early) c ≡ false) (sym sets) none

@@ -36,7 +36,6 @@ module _ (x : Replay) (dump : BoundDump) (t time : ℕ) (unsigned : AreUnsigned 
         record {
           follows = record { parts = n.2; words = followed.follows.words };
           given = record {
-            round = followed.dumped.round (suc n.0);
             last = subst (λ u. AreDumped m.design m.codes (given_of x) (dump.values u)) n.1 given;
             unsigned = unsigned;
           };

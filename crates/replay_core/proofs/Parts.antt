@@ -1,6 +1,6 @@
 -- The parts of a replay fit its design before and after each call.
 use Rattle.std.proofs.Common.{◌≡◌, ◌∙◌, ℕ, ◌+◌, ◌<◌, ◌≤◌, ◌^◌, Bool, true, ◌++◌, List, [], length, Option, Some, None, inl, inr, sym, ap, ap₂, subst, arith}
-use Rattle.std.specs.Prelude.{◌-◌, ◌&&◌, nat_le, nat_lt, replicate, slice_index_or}
+use Rattle.std.specs.Prelude.{◌-◌, ◌&&◌, nat_le, nat_lt, replicate}
 use Rattle.std.proofs.lemmas.Bool.{cases_Bool}
 use Rattle.std.proofs.lemmas.Bool.Decides.{nat_tests}
 use Rattle.std.proofs.lemmas.List.{get_or-replicate, get_or_past, length-replicate}
@@ -24,10 +24,10 @@ use Rattle.first_step.specs.settling.declared.parts.Scratch.{Scratch}
 use Rattle.step_start.specs.Fits.{FitsStep}
 use Rattle.first_step.specs.step_values.Vectors.{FitsSignals, StepVectors as StepValues}
 use Rattle.value_store.specs.Queue.{Queue}
+use Rattle.wake_list.specs.Waiting.{Waiting}
 use Rattle.step_start.specs.declared.room.StepRoom.{StepRoom}
 use Rattle.first_step.specs.step_values.Dumped.{AreDumped}
 use Rattle.first_step.specs.store_knowledge.Knows.{Knows}
-use Rattle.wake_laws.specs.Laws.{HasNoWriters}
 use Rattle.replay_core.specs.Codes.{flags_of}
 use Rattle.step_words.specs.Words.{FitsRanges, StepState}
 use Rattle.written_words.specs.Written.{WrittenState, in_range, range_at}
@@ -40,7 +40,7 @@ use Rattle.replay_core.specs.declared.state.ReplayState.{ReplayState}
 use Rattle.replay_core.specs.declared.tables.ReplayTables.{ReplayTables}
 use Rattle.replay_core.proofs.Codes.{coded_below}
 use Rattle.replay_core.proofs.Given.{cells_given, dumped}
-use Rattle.replay_core.proofs.Sets.{of_design_early}
+use Rattle.replay_core.proofs.Sets.{of_design_early, same_writers}
 
 -- only signals of the design have a code
 pub coded : (d : Design) (x : ReplayTables) → FitsTables d x → (s : ℕ) → Rattle.first_step.specs.step_values.Loose.has_code x.step.codes.items s ≡ true → s < length d.signals
@@ -102,9 +102,6 @@ given_cells d points x s fits have = dumped d x.step.codes.items s.values.last f
 pub closed_cells : (d : Design) (points : Points) (x : ReplayTables) (s : ReplayState) → FitsState d points x s → HaveValues x.step.codes.items s.values.closed → AreDumped d x.step.codes.items s.values.closed (cells_given x.step.codes.items s.values.closed)
 closed_cells d points x s fits have = dumped d x.step.codes.items s.values.closed fits.wide_closed have
 
-no_writers : (v w : WakeState) → w.writers ≡ v.writers → HasNoWriters v → HasNoWriters w
-no_writers v w same none x = ap (λ ws. slice_index_or ws x None) same ∙ none x
-
 -- the room after a step has begun
 pub room_begun : (d : Design) (x : ReplayTables) (r : ReplayRoom) (n : StepRoom) (given : Values) → FitsStep d x.step n given → (state_of n.sets).writers ≡ (state_of r.step.sets).writers
     → ((flags : List Bool) → Rattle.first_step.specs.step_wakes.Step.IsOfDesign d flags (state_of r.step.sets) → Rattle.first_step.specs.step_wakes.Step.IsOfDesign d flags (state_of n.sets)) → FitsRoom d x r → FitsRoom d x (record r { step = n })
@@ -112,11 +109,14 @@ room_begun d x r n given fits writers inputs room = record {
   changed = fits.changed;
   changes = fits.changes;
   sets = inputs _ room.sets;
-  writers = no_writers (state_of r.step.sets) (state_of n.sets) writers room.writers;
+  writers = same_writers d x.step.codes.items (state_of r.step.sets) (state_of n.sets) writers ((inputs _ room.sets).tables.things_are ∙ sym room.sets.tables.things_are) room.writers;
   list = fits.list;
   clocked = fits.clocked;
   overwritten = fits.overwritten;
   running = fits.running;
+  places = room.places;
+  ranks = room.ranks;
+  none_by_round = room.none_by_round;
   later = room.later;
   none_later = room.none_later;
   values = fits.values;
@@ -144,6 +144,9 @@ first_fits d points x r s v scratch ran checks values store k fits wide saved pi
         clocked = fits.room.clocked;
         overwritten = fits.room.overwritten;
         running = fits.room.running;
+        places = fits.room.places;
+        ranks = fits.room.ranks;
+        none_by_round = fits.room.none_by_round;
         later = fits.room.later;
         none_later = fits.room.none_later;
         values = wide;
@@ -207,6 +210,9 @@ room_compared d x r words room = record {
   clocked = room.clocked;
   overwritten = room.overwritten;
   running = room.running;
+  places = room.places;
+  ranks = room.ranks;
+  none_by_round = room.none_by_round;
   later = room.later;
   none_later = room.none_later;
   values = room.values;
@@ -316,11 +322,11 @@ begin_fits d points x r s n store fits step design writers inputs known =
 
 -- the room once the Clocked have run: of the parts with which the step begins, their list and what was found to be early have changed
 pub room_run : (d : Design) (x : ReplayTables) (r q : ReplayRoom) → FitsRoom d x r → q.step ≡ record r.step { clocked = q.step.clocked; sets = q.step.sets } → q.step.clocked.count ≡ r.step.clocked.count
-    → IsSameButEarly (state_of r.step.sets) (state_of q.step.sets) → length q.scratch.saved ≡ length r.scratch.saved → q.scratch.pieces ≡ r.scratch.pieces → q.later ≡ record r.later { items = [] } → q.ran.room ≡ r.ran.room
+    → IsSameButEarly (state_of r.step.sets) (state_of q.step.sets) → q.by_round ≡ r.by_round → length q.scratch.saved ≡ length r.scratch.saved → q.scratch.pieces ≡ r.scratch.pieces → q.later ≡ record r.later { items = [] } → q.ran.room ≡ r.ran.room
     → q.checks ≡ r.checks → FitsRoom d x q
-room_run d x r q room step count same saved pieces later ran checks =
+room_run d x r q room step count same rounds saved pieces later ran checks =
     let of = of_design_early d (flags_of x.step.codes.items) (state_of r.step.sets) (state_of q.step.sets) same room.sets in
-    let writers = no_writers (state_of r.step.sets) (state_of q.step.sets) (ap (λ (w : WakeState). w.writers) same) room.writers in
+    let writers = same_writers d x.step.codes.items (state_of r.step.sets) (state_of q.step.sets) (ap (λ (w : WakeState). w.writers) same) (ap (λ (w : WakeState). w.tables.things) same) room.writers in
     record {
       changed = ap (λ (n : StepRoom). n.changed.size) step ∙ room.changed;
       changes = subst (λ (n : StepRoom). length d.signals ≤ n.changes.room) (sym step) room.changes;
@@ -330,6 +336,9 @@ room_run d x r q room step count same saved pieces later ran checks =
       clocked = count ∙ room.clocked;
       overwritten = ap (λ (n : StepRoom). n.overwritten.size) step ∙ room.overwritten;
       running = ap (λ (n : StepRoom). n.running.size) step ∙ room.running;
+      places = subst (λ (l : Waiting). length d.processes ≤ l.count) (sym rounds) room.places;
+      ranks = subst (λ (l : Waiting). length d.signals + length d.memories < l.count) (sym rounds) room.ranks;
+      none_by_round = ap (λ (l : Waiting). l.pairs) rounds ∙ room.none_by_round;
       later = subst (λ (l : Queue ℕ). length d.processes ≤ l.room) (sym later) room.later;
       none_later = ap (λ (l : Queue ℕ). l.items) later;
       values = subst (λ (n : StepRoom). FitsSignals d n.values) (sym step) room.values;

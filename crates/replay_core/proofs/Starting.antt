@@ -22,10 +22,11 @@ use Rattle.step_start.specs.step_parts.AtStep.{AtRest}
 use Rattle.first_step.specs.step_values.Dumped.{AreDumped}
 use Rattle.first_step.specs.step_wakes.Step.{IsOfDesign}
 use Rattle.first_step.specs.store_knowledge.Knows.{Knows}
-use Rattle.wake_laws.specs.Laws.{HasNoWriters, habit_of}
+use Rattle.wake_laws.specs.Laws.{habit_of}
+use Rattle.wake_laws.specs.OfDesign.{AreWritersOf}
 use Rattle.first_step.specs.Begun.{IsFirstOf}
 use Rattle.replay_core.specs.Codes.{flags_of}
-use Rattle.replay_core.specs.Fits.{FitsTables, IsReplayable, IsUntouched}
+use Rattle.replay_core.specs.Fits.{FitsTables, HasWriters, IsReplayable, IsUntouched}
 use Rattle.replay_core.specs.Made.{IsDumpFor, Made, made_with, subject_of}
 use Rattle.replay_core.specs.declared.room.ReplayRoom.{ReplayRoom}
 use Rattle.replay_core.specs.declared.state.ReplayState.{ReplayState}
@@ -56,6 +57,7 @@ module _ (d : Design) (h : Habit) (points : Points) (x : ReplayTables) (replayab
       toggles = λ s i rise at. (replayable.listed.members (toggle_point s i rise)).0 at;
       arcs = λ i name s from to y z at. arcs_apart d replayable.machines points i name s from to y z replayable.listed at;
     };
+    rounds = of.rounds;
     wakes = replayable.own_wakes;
     machines = replayable.machines;
     listed = replayable.listed;
@@ -74,10 +76,10 @@ module _ (d : Design) (h : Habit) (points : Points) (x : ReplayTables) (replayab
 
     -- where nothing contradicts the step the dump is followed up to its first time
     pub starts_at : (r : ReplayRoom) (s : ReplayState) (y : Parts) → IsUntouched d points r s → AreMarksOf points s.notes.marks → AreUnsigned s.values.last → AreDumped d m.codes s.values.last (dump.values t)
-        → y.values.closed ≡ s.values.last → y.acted ≡ s.acted.items → y.marks ≡ s.notes.marks → y.seen ≡ s.seen → y.told ≡ s.machines.told → IsOfDesign d (flags_of m.codes) y.sets → HasNoWriters y.sets
+        → y.values.closed ≡ s.values.last → y.acted ≡ s.acted.items → y.marks ≡ s.notes.marks → y.seen ≡ s.seen → y.told ≡ s.machines.told → IsOfDesign d (flags_of m.codes) y.sets → HasWriters d m.codes y.sets
         → Knows d (first_replay (subject_of m dump) t).kept y.store → ((c : Cell) → contradicts_first d dump.bound (runs_of d) m.tables (dump.values t) c ≡ false) → Follows (subject_of m dump) t (first_replay (subject_of m dump) t) y
     starts_at r s y untouched marks unsigned given values acted same seen told sets writers knows none =
-        starts (subject_of m dump) t y (is_subject dump of) first shown sets writers
+        starts (subject_of m dump) t y (is_subject dump of) first shown sets (subst (λ b. AreWritersOf d b y.sets.tables.things y.sets.writers) (sym (fun_ext of.bound)) writers)
         (subst (λ vs. AreDumped d m.codes vs (dump.values t)) (sym values) given)
         (subst AreUnsigned (sym values) unsigned)
         none

@@ -50,11 +50,10 @@ use Rattle.first_step.specs.step_values.Loose.{has_code}
 use Rattle.first_step.specs.step_wakes.Step.{IsOfDesign}
 use Rattle.step_start.specs.still_check.Stays.{IsLeastMoved}
 use Rattle.step_marks.specs.toggle_laws.Turns.{MarksInTurn}
-use Rattle.wake_laws.specs.Laws.{HasNoWriters}
 use Rattle.wake_list.specs.Members.{has}
 use Rattle.replay_core.specs.Closing.{Closes, Counts, IsDueAt, Refutes}
 use Rattle.replay_core.specs.Codes.{flags_of}
-use Rattle.replay_core.specs.Fits.{FitsParts, FitsRoom, FitsTables, FitsWords}
+use Rattle.replay_core.specs.Fits.{FitsParts, FitsRoom, FitsTables, FitsWords, HasWriters}
 use Rattle.replay_core.specs.Made.{Following, Made, made_with, parts_with, subject_of}
 use Rattle.replay_core.specs.Steps.{IsSensitive}
 use Rattle.replay_core.specs.declared.room.ReplayRoom.{ReplayRoom}
@@ -260,7 +259,7 @@ module _ (d : Design) (habit : Habit) (points : Points) (x : ReplayTables) (r : 
 
           -- where there is none, and the toggles and the machines are marked, each dump is followed up to the end of the step
           pub closes_run : (y : ReplayState) (middle : Marks) (moves : List ℕ) → All (AgreesAt x.step.codes.items s.values.last w.step.values.made) (last_of_each (flat_map (row_at x.checks) w.ran.items))
-              → moves ≡ (state_of k.sets).moves → IsOfDesign d (flags_of x.step.codes.items) (state_of w.step.sets) → HasNoWriters (state_of w.step.sets) → AreMarksOf points z.notes.marks
+              → moves ≡ (state_of k.sets).moves → IsOfDesign d (flags_of x.step.codes.items) (state_of w.step.sets) → HasWriters d x.step.codes.items (state_of w.step.sets) → AreMarksOf points z.notes.marks
               → y.store ≡ z.store → y.acted.items ≡ z.acted.items → y.values.closed ≡ s.values.last → KeptWordsLaw → w.words ≡ q.words → y.notes.written.ranges ≡ s.notes.written.ranges
               → ((st : Closing) → IsOver st points moves time z.store w.step.values s.seen z.notes.marks → MarksInTurn st points moves z.notes.marks.verdicts middle.verdicts)
               → ((st : Closing) → IsOver st points moves time z.store w.step.values s.seen z.notes.marks → IsSeenAfter st points y.seen middle)
@@ -387,6 +386,9 @@ checked_fits d points x q r s is size fits = record {
     clocked = fits.room.clocked;
     overwritten = fits.room.overwritten;
     running = fits.room.running;
+    places = fits.room.places;
+    ranks = fits.room.ranks;
+    none_by_round = fits.room.none_by_round;
     later = fits.room.later;
     none_later = fits.room.none_later;
     values = fits.room.values;

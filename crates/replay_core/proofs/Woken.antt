@@ -93,7 +93,7 @@ module _ (m : Made) (dump : BoundDump) (t : ℕ) (a : Replay) (x : Following) (a
       → Knows m.design (flush (clocked_run st).kept (clocked_run st).queue) store → AreVerdicts m.design m.points (clocked_run st).notes marks.verdicts
       → HaveClockedRun due wakes early ran store marks
   have_run ran store marks members points knows verdicts = record {
-    running = λ p i r. (members p).1 ((listed_run p).1 (i, r), sym (running m.design (habit_of m.habit) dump (runs_of m.design) m.tables (sets_of wakes early) t a found.sets.sets p) ∙ r);
+    running = λ p i r. (members p).1 ((listed_run p).1 (i, r), sym (running m.design (habit_of m.habit) dump (runs_of m.design) m.tables (sets_of wakes early) t a found.sets p) ∙ r);
     clocked = λ p i. ((listed_run p).0 ((members p).0 i).0).0;
     knows = knows;
     points = points;
@@ -111,6 +111,6 @@ module _ (m : Made) (dump : BoundDump) (t : ℕ) (a : Replay) (x : Following) (a
         record {
           thing = e.1;
           watched = or_right (is_level (process_at m.design p) e.1) (has_event_of (process_at m.design p) e.1) (subst (λ es. list_any (λ (q : Edge × ℕ). nat_eq q.1 e.1) es ≡ true) events first.2);
-          moves = (found.sets.sets.moves e.1).0 (and_parts _ _ first.1).0;
+          moves = (found.sets.moves e.1).0 (and_parts _ _ first.1).0;
         },
       )

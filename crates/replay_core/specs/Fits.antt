@@ -1,5 +1,5 @@
 -- The parts of a replay fit its design: what is true of each replay, whatever the dump has given.
-use Rattle.std.specs.Prelude.{◌≡◌, ◌<◌, ◌≤◌, ◌^◌, ◌++◌, ℕ, false, true, List, [], length, slice_index_or, Option, Some, None}
+use Rattle.std.specs.Prelude.{◌≡◌, ◌<◌, ◌≤◌, ◌+◌, ◌^◌, ◌++◌, ℕ, false, true, List, [], length, slice_index_or, Option, Some, None}
 use Rattle.body_replay.specs.Store.{Kept}
 use Rattle.body_store.specs.Made.{nothing}
 use Rattle.code_values.specs.Values.{lacks_value, value_of}
@@ -10,7 +10,7 @@ use Rattle.cover_points.specs.declared.listing.Points.{Points}
 use Rattle.design_model.specs.Design.{Design, In, is_memory, signal_at}
 use Rattle.design_model.specs.Lawful.{IsLawfulDesign}
 use Rattle.cover_points.specs.design_machines.state_machines.Machines.{StateMachines}
-use Rattle.early_sets.specs.WakeState.{state_of}
+use Rattle.early_sets.specs.WakeState.{WakeState, state_of}
 use Rattle.four_state.specs.Vector.{Vector}
 use Rattle.index_sets.specs.Rows.{row_at}
 use Rattle.first_step.specs.mark_laws.Marked.{AreVerdicts}
@@ -31,7 +31,7 @@ use Rattle.first_step.specs.step_wakes.Step.{IsOfDesign}
 use Rattle.first_step.specs.store_knowledge.Knows.{Knows}
 use Rattle.first_step.specs.wake_bits.Wakes.{AreWakeRows}
 use Rattle.step_words.specs.Words.{FitsRanges, HasWords, StepState}
-use Rattle.wake_laws.specs.Laws.{HasNoWriters}
+use Rattle.wake_laws.specs.OfDesign.{AreWritersOf}
 use Rattle.written_words.specs.Same.{FollowsAll}
 use Rattle.written_words.specs.Written.{WrittenState}
 use Rattle.replay_core.specs.Codes.{flags_of}
@@ -64,16 +64,23 @@ pub record FitsTables (d : Design) (x : ReplayTables) : Type 0 where
   pub wakes : AreWakeRows d x.processes.watched x.wakes
   pub checks : AreCheckRows x.step.codes.items x.step.targets x.checks
 
+-- each event signal with a code that one block writes at most once may become single
+abbrev pub HasWriters : Design → List (Option ℕ) → WakeState → Type 0
+HasWriters d codes w = AreWritersOf d (has_code codes) w.tables.things w.writers
+
 -- the room is of the size of the design
 pub record FitsRoom (d : Design) (x : ReplayTables) (r : ReplayRoom) : Type 0 where
   pub changed : r.step.changed.size ≡ length d.signals
   pub changes : length d.signals ≤ r.step.changes.room
   pub sets : IsOfDesign d (flags_of x.step.codes.items) (state_of r.step.sets)
-  pub writers : HasNoWriters (state_of r.step.sets)
+  pub writers : HasWriters d x.step.codes.items (state_of r.step.sets)
   pub list : r.step.list.count ≡ length d.processes
   pub clocked : r.step.clocked.count ≡ length d.processes
   pub overwritten : r.step.overwritten.size ≡ length d.signals
   pub running : r.step.running.size ≡ length d.processes
+  pub places : length d.processes ≤ r.by_round.count
+  pub ranks : length d.signals + length d.memories < r.by_round.count
+  pub none_by_round : r.by_round.pairs ≡ []
   pub later : length d.processes ≤ r.later.room
   pub none_later : r.later.items ≡ []
   pub values : FitsSignals d r.step.values

@@ -3,6 +3,7 @@ use Rattle.std.specs.Prelude.{◌≡◌, ℕ, List, Option}
 use Rattle.body_replay.specs.Runs.{runs_of}
 use Rattle.cover_points.specs.declared.listing.Points.{Points}
 use Rattle.design_model.specs.Design.{Design}
+use Rattle.design_model.specs.MayMove.{AreLastRounds}
 use Rattle.design_model.specs.Shows.{BoundDump, IsDumpOf}
 use Rattle.early_sets.specs.WakeState.{state_of}
 use Rattle.early_sets.specs.declared.habit.Habit.{Habit}
@@ -85,8 +86,8 @@ pub record HasFollows (f : Subject) (t : ℕ) (a : Replay) (x : Following) : Typ
   pub parts : Follows f t a x.parts
   pub words : HasWords f.design a.kept x.ranges x.words
 
--- a dump of the design that has the signals with a code, of which each step is judged by the first round
+-- a dump of the design that has the signals with a code, of which each step is judged by its last round
 pub record IsDumpFor (m : Made) (dump : BoundDump) : Type 0 where
   pub fits : IsDumpOf m.design dump
   pub bound : (s : ℕ) → dump.bound s ≡ has_code m.codes s
-  pub round : (t : ℕ) → dump.round t ≡ 0
+  pub rounds : AreLastRounds m.design dump

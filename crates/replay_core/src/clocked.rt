@@ -11,7 +11,7 @@ ghost use Rattle.first_step.specs.mark_laws.Marked.{AreVerdicts};
 ghost use Rattle.first_step.specs.replay_sets.SetsOf.{AreChosen};
 ghost use Rattle.first_step.specs.store_knowledge.Knows.{Knows};
 ghost use Rattle.replay_model.specs.Step.{Closing, clocked_run};
-ghost use Rattle.step_clocked.specs.Runs.{AreClockedOf, AreFirstOf, HasWoken, IsClockedStep, is_woken};
+ghost use Rattle.step_clocked.specs.Runs.{AreClockedOf, AreStepSets, HasWoken, IsClockedStep, is_woken};
 ghost use Rattle.written_words.specs.Same.{SameUnwritten};
 ghost use Rattle.replay_core.specs.Fits.{FitsParts, HaveValues, IsReplayable};
 
@@ -24,8 +24,8 @@ use std::sync::ledger::Ledger;
 use step_clocked::{Given, run_clocked};
 use step_counts::Steps;
 
-/// Runs the Clocked processes that are woken, first the clean ones and then the others, which is one step each, and makes what they
-/// queue.
+/// Runs the Clocked processes that are woken, first the clean ones in order of their rounds and then the others, which is one step
+/// each, and makes what they queue.
 pub(crate) fn run_woken_clocked<L: Ledger>(
     design: &Design,
     habit: Habit,
@@ -38,7 +38,7 @@ pub(crate) fn run_woken_clocked<L: Ledger>(
     requires replayable { IsReplayable (design_view design.now) state.old.notes.points.now }
     requires fits { FitsParts (design_view design.now) state.old.notes.points.now tables.now room.old state.old }
     requires below { All (λ q. q.0 < length design.now.processes) room.old.step.clocked.pairs }
-    requires sets { AreFirstOf (design_view design.now) tables.now.step.codes.items (state_of room.old.step.sets) }
+    requires sets { AreStepSets (design_view design.now) tables.now.step.codes.items (state_of room.old.step.sets) }
     requires closed { HaveValues tables.now.step.codes.items state.old.values.closed }
     requires given { HaveValues tables.now.step.codes.items state.old.values.last }
     ensures fits { FitsParts (design_view design.now) state.old.notes.points.now tables.now room.new state.new }
@@ -77,6 +77,7 @@ pub(crate) fn run_woken_clocked<L: Ledger>(
     };
     run_clocked(
         &mut room.step.clocked,
+        &mut room.by_round,
         &mut room.later,
         &mut room.ran,
         &mut room.step.sets,

@@ -1,15 +1,15 @@
 //! The room of a step, which is used in each step anew.
 
-ghost use Rattle.std.specs.Prelude.{◌≡◌, ◌<◌, ◌≤◌, [], ℕ, IfOk, List, length};
+ghost use Rattle.std.specs.Prelude.{◌≡◌, ◌<◌, ◌≤◌, ◌+◌, [], ℕ, IfOk, List, length};
 ghost use Rattle.design_model.specs.Lawful.{IsLawfulDesign};
 ghost use Rattle.design_model.specs.View.{design_view};
 ghost use Rattle.early_sets.specs.WakeState.{state_of};
 ghost use Rattle.index_sets.specs.Rows.{row_at};
 ghost use Rattle.first_step.specs.step_values.Vectors.{FitsSignals};
-ghost use Rattle.first_step.specs.step_wakes.Step.{IsOfDesign};
+ghost use Rattle.first_step.specs.step_wakes.Step.{IsOfDesign, flag_at};
 ghost use Rattle.body_store.specs.Made.{nothing};
 ghost use Rattle.step_words.specs.Words.{FitsRanges, HasWords};
-ghost use Rattle.wake_laws.specs.Laws.{HasNoWriters};
+ghost use Rattle.wake_laws.specs.OfDesign.{AreWritersOf};
 ghost use Rattle.written_words.specs.Written.{AreRanges};
 ghost use Rattle.written_words.specs.declared.range.WordRange.{WordRange};
 ghost use Rattle.replay_core.specs.Codes.{flags_of};
@@ -20,8 +20,9 @@ use body_store::premises_law;
 use cov_host::NoMemory;
 use design_model::Design;
 use dump_check::CheckOrder;
-use first_step::{SavedValues, Scratch, StepValues, wakes_of};
+use first_step::{SavedValues, Scratch, StepValues};
 use index_sets::IndexSet;
+use round_wakes::wakes_by_rounds;
 use std::alloc::Global;
 use step_start::StepRoom;
 use step_words::StepWords;
@@ -37,6 +38,8 @@ pub(crate) struct ReplayRoom {
     pub(crate) step: StepRoom,
     /// What the run of a process uses.
     pub(crate) scratch: Scratch,
+    /// The clean Clocked processes, in order of the rounds in which their triggers became single.
+    pub(crate) by_round: WakeList,
     /// The Clocked processes that are not clean, while the clean ones run.
     pub(crate) later: Queue<u32>,
     /// The processes that ran, in order: the Clocked, and then the others.
@@ -53,6 +56,7 @@ impl Drop for ReplayRoom {
         let ReplayRoom {
             step: _,
             scratch: _,
+            by_round: _,
             later: _,
             ran: _,
             checks: _,
@@ -81,6 +85,7 @@ pub(crate) fn make_room(
 {
     premises_law();
     let scratch = scratch_room(alloc, design, tables)?;
+    let by_round = round_list(alloc, design)?;
     let later = Queue::new(alloc, design.processes.len())?;
     let ran = Queue::new(alloc, design.processes.len())?;
     let checks = CheckOrder::new(alloc, design.signals.len() as u32)?;
@@ -89,6 +94,7 @@ pub(crate) fn make_room(
     let room = ReplayRoom {
         step,
         scratch,
+        by_round,
         later,
         ran,
         checks,
@@ -103,7 +109,7 @@ fn step_room(alloc: Global, design: &Design, bound: &[bool]) -> Result<StepRoom,
     ensures changed { IfOk result (λ step. step.changed.size ≡ length design.now.signals) }
     ensures changes { IfOk result (λ step. step.changes.room ≡ length design.now.signals) }
     ensures sets { IfOk result (λ step. IsOfDesign (design_view design.now) bound.now (state_of step.sets)) }
-    ensures writers { IfOk result (λ step. HasNoWriters (state_of step.sets)) }
+    ensures writers { IfOk result (λ step. AreWritersOf (design_view design.now) (flag_at bound.now) (state_of step.sets).tables.things (state_of step.sets).writers) }
     ensures list { IfOk result (λ step. step.list.count ≡ length design.now.processes) }
     ensures none { IfOk result (λ step. step.list.pairs ≡ []) }
     ensures clocked { IfOk result (λ step. step.clocked.count ≡ length design.now.processes) }
@@ -115,7 +121,7 @@ fn step_room(alloc: Global, design: &Design, bound: &[bool]) -> Result<StepRoom,
     let lists = step_lists(alloc, design)?;
     let changes = Queue::new(alloc, design.signals.len())?;
     let values = StepValues::new(alloc, design)?;
-    let sets = wakes_of(alloc, design, bound)?;
+    let sets = wakes_by_rounds(alloc, design, bound)?;
     Ok(StepRoom {
         changed: lists.changed,
         changes,
@@ -183,6 +189,18 @@ fn wake_lists(alloc: Global, design: &Design) -> Result<(WakeList, WakeList), No
     let clocked = WakeList::new(alloc, design.processes.len() as u32)?;
     let list = WakeList::new(alloc, design.processes.len() as u32)?;
     Ok((clocked, list))
+}
+
+/// The list of the clean Clocked by their rounds, of which there are at most as many as signals and memories after the first.
+fn round_list(alloc: Global, design: &Design) -> Result<WakeList, NoMemory>
+    requires { IsLawfulDesign (design_view design.now) }
+    ensures places { IfOk result (λ list. length design.now.processes ≤ list.count) }
+    ensures ranks { IfOk result (λ list. length design.now.signals + length design.now.memories < list.count) }
+    ensures none { IfOk result (λ list. list.pairs ≡ []) }
+{
+    let things = design.signals.len() + design.memories.len();
+    let count = design.processes.len() + things + 1;
+    WakeList::new(alloc, count as u32)
 }
 
 /// The room for the run of a process.

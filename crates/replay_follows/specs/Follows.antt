@@ -10,6 +10,7 @@ use Rattle.step_parts.specs.cover_points.Visits.{AreApart, AreOnce}
 use Rattle.step_parts.specs.cover_points.declared.listing.Points.{Points}
 use Rattle.design_model.specs.Design.{Design}
 use Rattle.step_parts.specs.cover_points.design_machines.state_machines.Machines.{StateMachines}
+use Rattle.design_model.specs.MayMove.{AreLastRounds}
 use Rattle.design_model.specs.Shows.{BoundDump, IsShown}
 use Rattle.early_sets.specs.WakeState.{WakeState}
 use Rattle.early_sets.specs.declared.habit.Habit.{Habit}
@@ -25,7 +26,8 @@ use Rattle.step_parts.specs.AtStep.{AtRest}
 use Rattle.step_parts.specs.step_values.Dumped.{AreDumped}
 use Rattle.step_parts.specs.step_values.Loose.{has_code}
 use Rattle.step_parts.specs.step_wakes.Step.{IsOfDesign, flag_at}
-use Rattle.step_parts.specs.wake_laws.Laws.{HasNoWriters, habit_of}
+use Rattle.step_parts.specs.wake_laws.Laws.{habit_of}
+use Rattle.step_parts.specs.wake_laws.OfDesign.{AreWritersOf}
 
 -- what stays of a replay from its first step to its last
 pub record Subject : Type 0 where
@@ -40,9 +42,10 @@ pub record Subject : Type 0 where
   pub ranks : List (Option ℕ)  -- the place of each Assign and Comb in the order
   pub clocked_ranks : List (Option ℕ)  -- the place of each Clocked among them
 
--- it is of a lawful design and its points, with some state machines, and the codes and the places are those of its dump and tables
+-- it is of a lawful design and its points, with some state machines, each step is judged by its last round, and the codes and the places are those of its dump and tables
 pub record IsSubject (f : Subject) : Type 0 where
   pub is : IsReplayOf f.design (habit_of f.habit) f.dump f.run f.tables (points_of f.points)
+  pub rounds : AreLastRounds f.design f.dump
   pub wakes : HasOwnWakes f.design
   pub machines : StateMachines
   pub listed : IsPointList f.design machines f.points
@@ -63,11 +66,15 @@ pub record Parts : Type 0 where
   pub seen : List Toggles  -- what is marked already
   pub told : Bool  -- whether the states of machines were marked at a time of the window
 
+-- each event signal of the dump that one block writes at most once may become single
+abbrev pub HasWriters : Subject → Parts → Type 0
+HasWriters f x = AreWritersOf f.design f.dump.bound x.sets.tables.things x.sets.writers
+
 -- these have followed the dump up to this time, at which the replay is this
 pub record Follows (f : Subject) (t : ℕ) (a : Replay) (x : Parts) : Type 0 where
   pub subject : IsSubject f
   pub sets : IsOfDesign f.design f.flags x.sets
-  pub writers : HasNoWriters x.sets
+  pub writers : HasWriters f x
   pub closed : AreDumped f.design f.codes x.values.closed (f.dump.values t)
   pub unsigned : AreUnsigned x.values.closed
   pub rest : AtRest f.design f.points a x.store x.acted x.marks x.seen

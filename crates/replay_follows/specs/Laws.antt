@@ -12,7 +12,7 @@ use Rattle.early_sets.specs.WakeState.{WakeState}
 use Rattle.machine_laws.specs.Told.{AreTold}
 use Rattle.step_parts.specs.mark_laws.Marked.{AreVerdicts}
 use Rattle.step_parts.specs.replay_model.Laws.{AreReasonedVerdicts, AreSoundVerdicts}
-use Rattle.step_parts.specs.replay_model.Sets.{AreFirstSets}
+use Rattle.step_parts.specs.replay_model.Sets.{AreSets}
 use Rattle.step_parts.specs.replay_model.Start.{contradicts_first, started}
 use Rattle.step_parts.specs.replay_model.Step.{Closing, Replay, closed, contradicts}
 use Rattle.step_parts.specs.replay_sets.SetsOf.{sets_of}
@@ -21,8 +21,8 @@ use Rattle.step_parts.specs.AtStep.{AtRest}
 use Rattle.step_parts.specs.Due.{Due, IsDueStep, step_of}
 use Rattle.step_parts.specs.step_values.Dumped.{AreDumped}
 use Rattle.step_parts.specs.step_wakes.Step.{IsOfDesign}
-use Rattle.step_parts.specs.wake_laws.Laws.{HasNoWriters, habit_of}
-use Rattle.replay_follows.specs.Follows.{Follows, IsSubject, Parts, Subject}
+use Rattle.step_parts.specs.wake_laws.Laws.{habit_of}
+use Rattle.replay_follows.specs.Follows.{Follows, HasWriters, IsSubject, Parts, Subject}
 
 -- the replay after the first step, at this time
 abbrev pub first_replay : Subject → ℕ → Replay
@@ -54,9 +54,8 @@ step_at f t a x sets early = step_of (due_at f t a x) sets early
 abbrev pub next_replay : Subject → ℕ → Replay → Parts → WakeState → (ℕ → List ℕ) → Replay
 next_replay f t a x sets early = closed (step_at f t a x sets early) (points_of f.points)
 
--- the values that are given last are those of the dump at this time, and its step is judged by the first round
+-- the values that are given last are those of the dump at this time
 pub record AreGiven (f : Subject) (x : Parts) (t : ℕ) : Type 0 where
-  pub round : f.dump.round t ≡ 0
   pub last : AreDumped f.design f.codes x.values.last (f.dump.values t)
   pub unsigned : AreUnsigned x.values.last
 
@@ -67,7 +66,7 @@ IsRefused f t = IsContradicted f.design (habit_of f.habit) f.dump t
 -- Where nothing contradicts the first step, the replay has followed the dump up to its first time.
 abbrev pub FirstLaw : Type 0
 FirstLaw =
-    (f : Subject) (t : ℕ) (x : Parts) → IsSubject f → IsFirst f.dump t → IsShown f.dump t → IsOfDesign f.design f.flags x.sets → HasNoWriters x.sets
+    (f : Subject) (t : ℕ) (x : Parts) → IsSubject f → IsFirst f.dump t → IsShown f.dump t → IsOfDesign f.design f.flags x.sets → HasWriters f x
     → AreDumped f.design f.codes x.values.closed (f.dump.values t) → AreUnsigned x.values.closed
     → ((c : Cell) → contradicts_first f.design f.dump.bound f.run f.tables (f.dump.values t) c ≡ false)
     → AtRest f.design f.points (first_replay f t) x.store x.acted x.marks x.seen → x.told ≡ false
@@ -100,7 +99,7 @@ DueLaw = (f : Subject) (t : ℕ) (a : Replay) (x : Parts) → Follows f t a x �
 abbrev pub ClosedLaw : Type 0
 ClosedLaw =
     (f : Subject) (t : ℕ) (a : Replay) (x y : Parts) (early : ℕ → List ℕ) → Follows f t a x → AreGiven f x (suc t) → IsWindow f.dump (suc t) → IsListed f.dump (suc t)
-    → AreFirstSets f.design (habit_of f.habit) f.dump (suc t) (sets_of y.sets early) → IsOfDesign f.design f.flags y.sets → HasNoWriters y.sets
+    → AreSets f.design (habit_of f.habit) f.dump (suc t) (sets_of y.sets early) → IsOfDesign f.design f.flags y.sets → HasWriters f y
     → ((c : Cell) → contradicts (step_at f t a x y.sets early) c ≡ false) → y.values.closed ≡ x.values.last
     → AtRest f.design f.points (next_replay f t a x y.sets early) y.store y.acted y.marks y.seen → (y.told ≡ true → AreTold f.design f.points (next_replay f t a x y.sets early))
     → Follows f (suc t) (next_replay f t a x y.sets early) y
@@ -109,7 +108,7 @@ ClosedLaw =
 abbrev pub ContradictedLaw : Type 0
 ContradictedLaw =
     (f : Subject) (t : ℕ) (a : Replay) (x : Parts) (sets : WakeState) (early : ℕ → List ℕ) (c : Cell) → Follows f t a x → IsWindow f.dump (suc t)
-    → AreFirstSets f.design (habit_of f.habit) f.dump (suc t) (sets_of sets early) → contradicts (step_at f t a x sets early) c ≡ true → IsRefused f (suc t)
+    → AreSets f.design (habit_of f.habit) f.dump (suc t) (sets_of sets early) → contradicts (step_at f t a x sets early) c ≡ true → IsRefused f (suc t)
 
 -- the dump lists no time of its window after this one
 abbrev pub IsLastStep : BoundDump → ℕ → Type 0

@@ -1,6 +1,6 @@
 -- The runs of the Clocked change nothing of what has acted.
 use Rattle.std.proofs.Common.{◌≡◌, ℕ, List, [], ◌∷◌, refl, ◌∙◌, Option, Some, None}
-use Rattle.replay_model.specs.Step.{Closing, Working, clocked_run, opened, run_all_clean, run_all_weak, run_clean, run_weak}
+use Rattle.replay_model.specs.Step.{Closing, Working, clean_order, clocked_run, opened, run_all_clean, run_all_weak, run_clean, run_weak}
 
 module _ (st : Closing) where
   clean_acted : (o : Option ℕ) (p : ℕ) (wk : Working) → (run_clean st o p wk).acted ≡ wk.acted
@@ -21,4 +21,4 @@ module _ (st : Closing) where
   all_weak_acted (p ∷ ps) wk = all_weak_acted ps (run_weak st (st.sets.trigger p) (st.sets.wakes p) p wk) ∙ weak_acted (st.sets.trigger p) (st.sets.wakes p) p wk
 
   pub clocked_acted : (clocked_run st).acted ≡ st.start.acted
-  clocked_acted = all_weak_acted st.tables.clocked (run_all_clean st st.tables.clocked (opened st)) ∙ all_clean_acted st.tables.clocked (opened st)
+  clocked_acted = all_weak_acted st.tables.clocked (run_all_clean st (clean_order st) (opened st)) ∙ all_clean_acted (clean_order st) (opened st)

@@ -28,7 +28,7 @@ use Rattle.body_replay.specs.KnownBits.{Allows}
 use Rattle.body_replay.specs.Replay.{flush}
 use Rattle.body_replay.specs.Runs.{Runs}
 use Rattle.body_replay.specs.Store.{AllowsState}
-use Rattle.replay_model.specs.Sets.{AreFirstSets, Sets}
+use Rattle.replay_model.specs.Sets.{AreSets, Sets}
 use Rattle.replay_model.specs.Tables.{Tables}
 use Rattle.replay_model.specs.Step.{Closing, Replay, Working, all_run, clocked_run, contradicts, is_dumped, is_loose, is_touched, run_all_settling, settle_start, updated}
 use Rattle.replay_model.specs.Laws.{IsReplayOf, closing_at}
@@ -59,7 +59,7 @@ by_kind (assign i t v c) h = inl refl
 by_kind (comb i wakes s) h = inr tt
 by_kind (clocked i events s) h = absurd (h tt)
 
-module _ (d : Design) (h : Habit) (dump : BoundDump) (run : Runs) (tables : Tables) (points : List Point) (is : IsReplayOf d h dump run tables points) (laws : StepLaws (machine d) h) (early_law : EarlyLaw (machine d)) (t : ℕ) (window : IsWindow dump (suc t)) (sets : Sets) (are : AreFirstSets d h dump (suc t) sets) (a : Replay) (r : Run) (showing : IsShowing d h dump (suc t) r) (starts : AllowsState a.kept (settled d r t)) where
+module _ (d : Design) (h : Habit) (dump : BoundDump) (run : Runs) (tables : Tables) (points : List Point) (is : IsReplayOf d h dump run tables points) (laws : StepLaws (machine d) h) (early_law : EarlyLaw (machine d)) (t : ℕ) (window : IsWindow dump (suc t)) (sets : Sets) (are : AreSets d h dump (suc t) sets) (a : Replay) (r : Run) (showing : IsShowing d h dump (suc t) r) (starts : AllowsState a.kept (settled d r t)) where
   abbrev st : Closing
   st = closing_at d dump run tables sets t a
 
@@ -90,7 +90,7 @@ module _ (d : Design) (h : Habit) (dump : BoundDump) (run : Runs) (tables : Tabl
   -- what an Assign or Comb writes that watches nothing that may move stays
   module _ (p : ℕ) (settles : IsClocked (process_at d p) → ⊥) (calm : (x : ℕ) → is_level (process_at d p) x ≡ true → sets.moves x ≡ true → ⊥) (c : Cell) (target : (machine d).blocking p c ≡ true) where
     same_level : (b : Cell) → is_level (process_at d p) b.thing ≡ true → settled d r (suc t) b ≡ settled d r t b
-    same_level b level = here.unmoved b (λ m. calm b.thing level ((are.sets.moves b.thing).1 m))
+    same_level b level = here.unmoved b (λ m. calm b.thing level ((are.moves b.thing).1 m))
 
     of_assign : is_assign (process_at d p) ≡ true → settled d r (suc t) c ≡ settled d r t c
     of_assign e =
@@ -116,7 +116,7 @@ module _ (d : Design) (h : Habit) (dump : BoundDump) (run : Runs) (tables : Tabl
             ⊎_elim (λ x. absurd (comb_not_assign (process_at d p) is_comb (is.lawful.apart q p c.thing x theirs mine))) (λ n. is.lawful.one_writer q p c.thing n (comb_not_assign (process_at d p) is_comb) theirs mine) (assign_or (process_at d q))
 
         woken : (x : ℕ) → MayMoveAt d dump (suc t) x → MayWake (machine d) (told_at dump (suc t)) (IsSingleAt d dump (suc t)) x p → ⊥
-        woken x m (inl level) = calm x level ((are.sets.moves x).1 m)
+        woken x m (inl level) = calm x level ((are.moves x).1 m)
         woken x m (inr k) = both_ways _ (no_edges (process_at d p) is_comb k.2.0 k.0) k.2.1
 
         unmoved : (y : ℕ) → MayMoveAt d dump (suc t) y → y ≡ c.thing → ⊥

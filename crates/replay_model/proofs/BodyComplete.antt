@@ -25,12 +25,12 @@ use Rattle.body_replay.specs.KnownBits.{Allows}
 use Rattle.body_replay.specs.Replay.{Spot, Visited, line, node, word_read, word_write}
 use Rattle.body_replay.specs.Runs.{HasDoubtNote, Runs, seen_of}
 use Rattle.body_replay.specs.Store.{AllowsState}
-use Rattle.replay_model.specs.Sets.{AreFirstSets, Sets}
+use Rattle.replay_model.specs.Sets.{AreSets, Sets}
 use Rattle.design_model.specs.BodyLaws.{all_cells}
 use Rattle.design_model.specs.StepLaws.{IsLeft, StepFacts}
 use Rattle.replay_model.specs.Tables.{Tables}
 use Rattle.replay_model.specs.Marks.{IsKeyOf, Marking, markings_by, of_process}
-use Rattle.replay_model.specs.Step.{Closing, Replay, all_run, certainty, clocked_run, entry_kept, is_touched, opened, plain_store, run_all_clean, settled_kept, surely_same, wake_cells}
+use Rattle.replay_model.specs.Step.{Closing, Replay, all_run, certainty, clean_order, clocked_run, entry_kept, is_touched, opened, plain_store, run_all_clean, settled_kept, surely_same, wake_cells}
 use Rattle.replay_model.specs.Laws.{IsReplayOf, closing_at}
 use Rattle.replay_model.proofs.Allows.{below_of, here, in_all, past}
 use Rattle.replay_model.proofs.Bits.{all_in, any_in, in_any, in_left, in_right, none_in, same_equal}
@@ -46,7 +46,7 @@ in_reads Q [] m i inner all h = absurd h
 in_reads Q (x ∷ xs) m i inner all (inl e) = (subst (λ z. AllReads Q (z ∷ xs)) e all).0
 in_reads Q (x ∷ xs) m i inner all (inr h) = in_reads Q xs m i inner all.1 h
 
-module _ (d : Design) (h : Habit) (dump : BoundDump) (run : Runs) (tables : Tables) (points : List Point) (is : IsReplayOf d h dump run tables points) (laws : StepLaws (machine d) h) (early_law : EarlyLaw (machine d)) (asked : AskedLaws d) (t : ℕ) (window : IsWindow dump (suc t)) (sets : Sets) (are : AreFirstSets d h dump (suc t) sets) (a : Replay) (r : Run) (showing : IsShowing d h dump (suc t) r) (starts : AllowsState a.kept (settled d r t)) (acted : (p : ℕ) → IsComb (process_at d p) → a.acted p ≡ true → IsLeft d p (settled d r t)) where
+module _ (d : Design) (h : Habit) (dump : BoundDump) (run : Runs) (tables : Tables) (points : List Point) (is : IsReplayOf d h dump run tables points) (laws : StepLaws (machine d) h) (early_law : EarlyLaw (machine d)) (asked : AskedLaws d) (t : ℕ) (window : IsWindow dump (suc t)) (sets : Sets) (are : AreSets d h dump (suc t) sets) (a : Replay) (r : Run) (showing : IsShowing d h dump (suc t) r) (starts : AllowsState a.kept (settled d r t)) (acted : (p : ℕ) → IsComb (process_at d p) → a.acted p ≡ true → IsLeft d p (settled d r t)) where
   abbrev st : Closing
   st = closing_at d dump run tables sets t a
 
@@ -91,7 +91,7 @@ module _ (d : Design) (h : Habit) (dump : BoundDump) (run : Runs) (tables : Tabl
     by_clean : (e : ℕ) → sets.trigger p ≡ Some e → IsClocked (process_at d p) → TellsNow p s
     by_clean e f is_clocked = tells ((clean_told d h dump run tables points is laws early_law asked t window sets are a r showing starts acted).has p ((is.tabled.clocked p).1 (clocked_below p is_clocked, is_clocked), (e, f)))
       where
-        tells : (ns : List Note) × CleanRun d is.lawful h early_law dump run is.runs tables t sets are a p ns × ((n : Marking) → In n (markings_by p ns) → In n (run_all_clean st tables.clocked (opened st)).notes) → TellsNow p s
+        tells : (ns : List Note) × CleanRun d is.lawful h early_law dump run is.runs tables t sets are a p ns × ((n : Marking) → In n (markings_by p ns) → In n (run_all_clean st (clean_order st) (opened st)).notes) → TellsNow p s
         tells c =
             from_notes p s c.0 (λ n y. later n ((weak_told d h dump run tables points is laws early_law asked t window sets are a r showing starts acted).keeps n (c.2 n y)))
             (subst (λ ns. HasHitNote s ns ⊎ ((y : Doubted) × (y.time ≡ suc t) × HasDoubtNote s y ns)) (sym c.1.notes)
@@ -99,7 +99,7 @@ module _ (d : Design) (h : Habit) (dump : BoundDump) (run : Runs) (tables : Tabl
           where
             allowed : AllowsState (seen_of c.1.store) v
             allowed b =
-                let o = every_entry d h dump run tables points is laws t window r showing k at p (cell c.1.trigger 0) (are.sets.trigger p c.1.trigger c.1.is_trigger) v scored in
+                let o = every_entry d h dump run tables points is laws t window r showing k at p (cell c.1.trigger 0) (are.trigger p c.1.trigger c.1.is_trigger) v scored in
                 subst (λ z. Allows z (v b)) (sym (c.1.reads b)) (subst (λ f. Allows (entry_kept st p c.1.trigger b) (f b)) (sym o.1) (entry_allowed d h dump run tables points is laws early_law asked t window sets are a r showing starts acted p c.1.trigger c.1.is_trigger o.0 b))
 
     by_weak : (thing : ℕ) → sets.trigger p ≡ None → sets.wakes p ≡ Some thing → IsClocked (process_at d p) → TellsNow p s
@@ -129,7 +129,7 @@ module _ (d : Design) (h : Habit) (dump : BoundDump) (run : Runs) (tables : Tabl
             allowed = settled_allowed d h dump run tables points is laws early_law asked t window sets are a r showing starts acted p settles c.1.wk.kept c.1.holds.0.allowed v e.0
 
             moves : (b : Bool) → sets.moves e.1.0.thing ≡ b → (not b || list_all (λ c'. surely_same (a.kept c') (c.1.wk.kept c')) (wake_cells d p e.1.0.thing)) ≡ true → ⊥
-            moves false f g = e.1.2 (sym (facts.unmoved e.1.0 (λ m. both_ways _ f ((are.sets.moves e.1.0.thing).1 m))))
+            moves false f g = e.1.2 (sym (facts.unmoved e.1.0 (λ m. both_ways _ f ((are.moves e.1.0.thing).1 m))))
             moves true f g =
                 e.1.2
                 (same_equal (a.kept e.1.0) (c.1.wk.kept e.1.0) (settled d r t e.1.0) (settled d r (suc t) e.1.0)
@@ -146,7 +146,7 @@ module _ (d : Design) (h : Habit) (dump : BoundDump) (run : Runs) (tables : Tabl
         touched : (OnWakes d h dump run tables points is laws t window r showing p v × ((c : Cell) × IsWakeCell (machine d) p c × (settled d r t c ≡ settled d r (suc t) c → ⊥))) → is_touched st p ≡ true
         touched e =
             in_any sets.moves (tables.watched p) e.1.0.thing ((is.tabled.watched p e.1.0.thing).1 e.1.1.0)
-            (Rattle.std.proofs.lemmas.Bool.true_from_ne_false _ (λ f. e.1.2 (sym (facts.unmoved e.1.0 (λ m. both_ways _ f ((are.sets.moves e.1.0.thing).1 m))))))
+            (Rattle.std.proofs.lemmas.Bool.true_from_ne_false _ (λ f. e.1.2 (sym (facts.unmoved e.1.0 (λ m. both_ways _ f ((are.moves e.1.0.thing).1 m))))))
 
         by_order : In p tables.order → TellsNow p s
         by_order y =
@@ -165,7 +165,7 @@ module _ (d : Design) (h : Habit) (dump : BoundDump) (run : Runs) (tables : Tabl
             go : (o : Option ℕ) → sets.trigger p ≡ o → (n : Option ℕ) → sets.wakes p ≡ n → TellsNow p s
             go (Some e) f n g = by_clean e f is_clocked
             go None f (Some thing) g = by_weak thing f g is_clocked
-            go None f None g = absurd (unwoken_none d h dump run tables points is laws t window r showing k at p is_clocked (are.sets.no_wakes p g) v scored)
+            go None f None g = absurd (unwoken_none d h dump run tables points is laws t window r showing k at p is_clocked (are.no_wakes p g) v scored)
 
   -- what is told of the point
   abbrev pub PointTold : Point → Type 0

@@ -21,12 +21,12 @@ use Rattle.body_replay.specs.KnownBits.{Allows}
 use Rattle.body_replay.specs.Replay.{Spot, Visited}
 use Rattle.body_replay.specs.Runs.{Runs}
 use Rattle.body_replay.specs.Store.{AllowsState, Kept}
-use Rattle.replay_model.specs.Sets.{AreFirstSets, Sets}
+use Rattle.replay_model.specs.Sets.{AreSets, Sets}
 use Rattle.design_model.specs.BodyLaws.{all_cells}
 use Rattle.design_model.specs.StepLaws.{CleanEvaluation, IsLeft, StepFacts}
 use Rattle.replay_model.specs.Tables.{Tables}
 use Rattle.replay_model.specs.Marks.{IsKeyOf, Marking, markings_by, of_process}
-use Rattle.replay_model.specs.Step.{Closing, Replay, Working, all_run, certainty, clocked_run, entry_kept, has_changed, is_comb, is_touched, opened, plain_store, run_all_clean, run_all_settling, run_settling, settle_start, settled_kept, surely_differ, wake_cells}
+use Rattle.replay_model.specs.Step.{Closing, Replay, Working, all_run, certainty, clean_order, clocked_run, entry_kept, has_changed, is_comb, is_touched, opened, plain_store, run_all_clean, run_all_settling, run_settling, settle_start, settled_kept, surely_differ, wake_cells}
 use Rattle.replay_model.specs.Laws.{IsReplayOf, closing_at}
 use Rattle.replay_model.proofs.Allows.{Sound, here, nets_at, settle_starts}
 use Rattle.replay_model.proofs.Bits.{any_in, differ_apart}
@@ -36,9 +36,9 @@ use Rattle.replay_model.proofs.Hits.{Way, clean_entry, level_settles, settling_e
 use Rattle.replay_model.proofs.Settling.{SettlingSound, in_thing, is_comb-from, level_mentioned, not_assigned-in, run_sound}
 use Rattle.replay_model.proofs.Settling as settling
 use Rattle.replay_model.proofs.Targets.{blocks_assigns, blocks_from}
-use Rattle.replay_model.proofs.Trace.{CleanRun, SettleRun, Traced, WeakRun, all_traced, settle_all, settle_keeps, weak_all}
+use Rattle.replay_model.proofs.Trace.{CleanRun, SettleRun, Traced, WeakRun, order_traced, settle_all, settle_keeps, weak_all}
 
-module _ (d : Design) (h : Habit) (dump : BoundDump) (run : Runs) (tables : Tables) (points : List Point) (is : IsReplayOf d h dump run tables points) (laws : StepLaws (machine d) h) (early_law : EarlyLaw (machine d)) (asked : AskedLaws d) (t : ℕ) (window : IsWindow dump (suc t)) (sets : Sets) (are : AreFirstSets d h dump (suc t) sets) (a : Replay) (r : Run) (showing : IsShowing d h dump (suc t) r) (starts : AllowsState a.kept (settled d r t)) (acted : (p : ℕ) → IsComb (process_at d p) → a.acted p ≡ true → IsLeft d p (settled d r t)) where
+module _ (d : Design) (h : Habit) (dump : BoundDump) (run : Runs) (tables : Tables) (points : List Point) (is : IsReplayOf d h dump run tables points) (laws : StepLaws (machine d) h) (early_law : EarlyLaw (machine d)) (asked : AskedLaws d) (t : ℕ) (window : IsWindow dump (suc t)) (sets : Sets) (are : AreSets d h dump (suc t) sets) (a : Replay) (r : Run) (showing : IsShowing d h dump (suc t) r) (starts : AllowsState a.kept (settled d r t)) (acted : (p : ℕ) → IsComb (process_at d p) → a.acted p ≡ true → IsLeft d p (settled d r t)) where
   abbrev st : Closing
   st = closing_at d dump run tables sets t a
 
@@ -48,7 +48,7 @@ module _ (d : Design) (h : Habit) (dump : BoundDump) (run : Runs) (tables : Tabl
   -- what a clean block reads allows the values on which it is evaluated
   pub entry_allowed : (p s : ℕ) → sets.trigger p ≡ Some s → (o : CleanEvaluation d h dump t (settled d r t) (settled d r (suc t)) p (cell s 0)) → AllowsState (entry_kept st p s) o.entry
   entry_allowed p s e o =
-      blocks.reads_entry d is.lawful h early_law dump is.fits run is.runs tables t sets are a (settled d r t) (settled d r (suc t)) facts starts (λ q. ⊥) (opened st) (record { mid = settled d r t; allowed = starts; start_or = λ c. inl refl; unqueued = λ c none k. refl; final = λ q x. absurd x }) (λ q x. absurd x) p (λ x. x) s (are.sets.trigger p s e) o
+      blocks.reads_entry d is.lawful h early_law dump is.fits run is.runs tables t sets are a (settled d r t) (settled d r (suc t)) facts starts (λ q. ⊥) (opened st) (record { mid = settled d r t; allowed = starts; start_or = λ c. inl refl; unqueued = λ c none k. refl; final = λ q x. absurd x }) p (λ q x. absurd x) (λ x. x) s e o
 
   abbrev Mixed : ℕ → Values Bit → Values Bit
   Mixed p v c = if blocking_target d (body_at d p) c then v c else settled d r (suc t) c
@@ -84,12 +84,12 @@ module _ (d : Design) (h : Habit) (dump : BoundDump) (run : Runs) (tables : Tabl
   Good ps wk = Sound d h dump run tables points is laws early_law t window sets are a r showing starts acted wk × ((q : ℕ) → In q ps → IsClocked (process_at d q) → ⊥)
 
   -- what the stages tell
-  pub clean_told : Traced (CleanRun d is.lawful h early_law dump run is.runs tables t sets are a) (λ q. In q tables.clocked × ((s : ℕ) × (sets.trigger q ≡ Some s))) a.notes (run_all_clean st tables.clocked (opened st)).notes
+  pub clean_told : Traced (CleanRun d is.lawful h early_law dump run is.runs tables t sets are a) (λ q. In q tables.clocked × ((s : ℕ) × (sets.trigger q ≡ Some s))) a.notes (run_all_clean st (clean_order st) (opened st)).notes
   clean_told =
-      all_traced d is.lawful h early_law dump run is.runs tables t sets are a (λ q. ⊥) tables.clocked (opened st) (λ c. inl refl) (λ q x. absurd x) (λ q x y. y) (distinct_left tables.clocked (tables.order ++ tables.last) is.tabled.once)
+      order_traced d is.lawful h early_law dump run is.runs tables t sets are a (distinct_left tables.clocked (tables.order ++ tables.last) is.tabled.once)
 
-  pub weak_told : Traced (WeakRun d is.lawful h early_law dump run is.runs tables t sets are a) (λ q. In q tables.clocked × ((sets.trigger q ≡ None) × ((s : ℕ) × (sets.wakes q ≡ Some s)))) (run_all_clean st tables.clocked (opened st)).notes (clocked_run st).notes
-  weak_told = weak_all d is.lawful h early_law dump run is.runs tables t sets are a tables.clocked (run_all_clean st tables.clocked (opened st))
+  pub weak_told : Traced (WeakRun d is.lawful h early_law dump run is.runs tables t sets are a) (λ q. In q tables.clocked × ((sets.trigger q ≡ None) × ((s : ℕ) × (sets.wakes q ≡ Some s)))) (run_all_clean st (clean_order st) (opened st)).notes (clocked_run st).notes
+  weak_told = weak_all d is.lawful h early_law dump run is.runs tables t sets are a tables.clocked (run_all_clean st (clean_order st) (opened st))
 
   next : (ordered : Bool) (p : ℕ) (rest : List ℕ) (wk : Working) → Good (p ∷ rest) wk → Good rest (run_settling st ordered p wk)
   next ordered p rest wk good =
@@ -125,7 +125,7 @@ module _ (d : Design) (h : Habit) (dump : BoundDump) (run : Runs) (tables : Tabl
   clean_hit x n p ns k there key e =
       let s = told_hit p ns n there e in
       let b = key_spot x n p s.0 key s.1 in
-      let o = clean_entry d h dump run tables points is laws t window r showing p (cell k.trigger 0) (are.sets.trigger p k.trigger k.is_trigger) in
+      let o = clean_entry d h dump run tables points is laws t window r showing p (cell k.trigger 0) (are.trigger p k.trigger k.is_trigger) in
       (o.0, o.1, visited_hit d r o.0 p o.2.entry o.3 x s.0 b.0 b.1 (is.runs.hits_sound p k.store (suc t) s.0 (subst (HasHitNote s.0) k.notes s.2) o.2.entry (λ c. subst (λ z. Allows z (o.2.entry c)) (sym (k.reads c)) (entry_allowed p k.trigger k.is_trigger o.2 c))))
 
   weak_hit : (x : Point) (n : Marking) (p : ℕ) (ns : List Note) → WeakRun d is.lawful h early_law dump run is.runs tables t sets are a p ns → In n (markings_by p ns) → n.doubt ≡ None → ⊥
@@ -163,7 +163,7 @@ module _ (d : Design) (h : Habit) (dump : BoundDump) (run : Runs) (tables : Tabl
   pub body_hit : (x : Point) (n : Marking) → In n (all_run st).notes → IsKeyOf d x n.key → n.doubt ≡ None → In n a.notes ⊎ HitNow x
   body_hit x n there key e = ⊎_elim in_order (λ k. inr (settle_hit x n k.0 k.1 k.2 k.3 key e)) (last_told.from n there)
     where
-      in_clean : In n (run_all_clean st tables.clocked (opened st)).notes → In n a.notes ⊎ HitNow x
+      in_clean : In n (run_all_clean st (clean_order st) (opened st)).notes → In n a.notes ⊎ HitNow x
       in_clean y = ⊎_elim (λ z. inl z) (λ k. inr (clean_hit x n k.0 k.1 k.2 k.3 key e)) (clean_told.from n y)
 
       in_clocked : In n (clocked_run st).notes → In n a.notes ⊎ HitNow x

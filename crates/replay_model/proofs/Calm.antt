@@ -21,7 +21,7 @@ use Rattle.replay_model.proofs.AskedLaws.{AskedLaws}
 use Rattle.body_replay.specs.Contract.{sure_in}
 use Rattle.body_replay.specs.Replay.{flush}
 use Rattle.body_replay.specs.Runs.{Runs}
-use Rattle.replay_model.specs.Sets.{AreFirstSets, Sets}
+use Rattle.replay_model.specs.Sets.{AreSets, Sets}
 use Rattle.replay_model.specs.Tables.{Tables}
 use Rattle.replay_model.specs.Step.{Closing, Replay, all_run, clocked_run, contradicts, is_dumped, is_loose, is_touched, run_all_settling, settle_start, surely_differ}
 use Rattle.replay_model.specs.Laws.{IsReplayOf, closing_at}
@@ -32,7 +32,7 @@ use Rattle.replay_model.proofs.Existing.{signal_has}
 use Rattle.replay_model.proofs.Order.{made_all}
 use Rattle.replay_model.proofs.SettleReasons.{bound_clear, differ_from, sure_at}
 
-module _ (h : Habit) (d : Design) (dump : BoundDump) (run : Runs) (tables : Tables) (points : List Point) (is : IsReplayOf d h dump run tables points) (asked : AskedLaws d) (t : ℕ) (sets : Sets) (a : Replay) (window : IsWindow dump (suc t)) (listed : IsListed dump (suc t)) (are : AreFirstSets d h dump (suc t) sets) (at_start : (x : Thing) (bits : List Bit) → clear d h dump t x bits → sure_in d a.kept x bits) (agreed : (c : Cell) → contradicts (closing_at d dump run tables sets t a) c ≡ false) where
+module _ (h : Habit) (d : Design) (dump : BoundDump) (run : Runs) (tables : Tables) (points : List Point) (is : IsReplayOf d h dump run tables points) (asked : AskedLaws d) (t : ℕ) (sets : Sets) (a : Replay) (window : IsWindow dump (suc t)) (listed : IsListed dump (suc t)) (are : AreSets d h dump (suc t) sets) (at_start : (x : Thing) (bits : List Bit) → clear d h dump t x bits → sure_in d a.kept x bits) (agreed : (c : Cell) → contradicts (closing_at d dump run tables sets t a) c ≡ false) where
   abbrev st : Closing
   st = closing_at d dump run tables sets t a
 
@@ -46,8 +46,8 @@ module _ (h : Habit) (d : Design) (dump : BoundDump) (run : Runs) (tables : Tabl
   pub target_moves : (q : ℕ) (c : Cell) → IsTarget (machine d) q c → (is_touched st q ≡ true) ⊎ CanWakeSome d dump (suc t) q → sets.moves c.thing ≡ true
   target_moves q c target (inl touched) =
       let x = any_in sets.moves (tables.watched q) touched in
-      (are.sets.moves c.thing).1 (of_target x.0 q c ((are.sets.moves x.0).0 x.2) (inl ((is.tabled.watched q x.0).0 x.1)) target)
-  target_moves q c target (inr wakes) = (are.sets.moves c.thing).1 (of_target wakes.0.thing q c wakes.1.1 (inr (wakes.0, refl, wakes.1.0)) target)
+      (are.moves c.thing).1 (of_target x.0 q c ((are.moves x.0).0 x.2) (inl ((is.tabled.watched q x.0).0 x.1)) target)
+  target_moves q c target (inr wakes) = (are.moves c.thing).1 (of_target wakes.0.thing q c wakes.1.1 (inr (wakes.0, refl, wakes.1.0)) target)
 
   -- what no process writes that runs is made as it was
   pub made_start : (c : Cell) → ((q : ℕ) → IsTarget (machine d) q c → (is_touched st q ≡ true) ⊎ CanWakeSome d dump (suc t) q → ⊥) → (all_run st).made c ≡ a.kept c
@@ -55,8 +55,8 @@ module _ (h : Habit) (d : Design) (dump : BoundDump) (run : Runs) (tables : Tabl
       made_all d h (early_law (machine d)) dump run tables points is t sets are a false tables.last (run_all_settling st true tables.order (settle_start st (clocked_run st))) c (λ q x f. untouched q f)
       ∙ made_all d h (early_law (machine d)) dump run tables points is t sets are a true tables.order (settle_start st (clocked_run st)) c (λ q x f. untouched q f)
       ∙ at_false (λ z. z ≡ flush (clocked_run st).kept (clocked_run st).queue c) (is_loose st c) None (flush (clocked_run st).kept (clocked_run st).queue c) firm refl
-      ∙ clocked_stays d h (early_law (machine d)) dump run tables points is t sets are a c (λ q x ran. away_from d h (early_law (machine d)) dump run tables points is t sets are a c q (λ at. never q at (inr (cell ran.0 0, (are.sets.trigger q ran.0 ran.1).can_wake))))
-      (λ q x ran. away_from d h (early_law (machine d)) dump run tables points is t sets are a c q (λ at. never q at (inr (cell ran.1.0 0, are.sets.wakes q ran.1.0 ran.1.1))))
+      ∙ clocked_stays d h (early_law (machine d)) dump run tables points is t sets are a c (λ q x ran. away_from d h (early_law (machine d)) dump run tables points is t sets are a c q (λ at. never q at (inr (cell ran.0 0, (are.trigger q ran.0 ran.1).can_wake))))
+      (λ q x ran. away_from d h (early_law (machine d)) dump run tables points is t sets are a c q (λ at. never q at (inr (cell ran.1.0 0, are.wakes q ran.1.0 ran.1.1))))
     where
       untouched : (q : ℕ) → is_touched st q ≡ true → blocking_target d (body_at d q) c ≡ false
       untouched q touched = false_from_ne_true _ (λ e. never q (inl e) (inl touched))
@@ -79,7 +79,7 @@ module _ (h : Habit) (d : Design) (dump : BoundDump) (run : Runs) (tables : Tabl
 
       of_an_input : same_bit (dump.values t c) (dump.values (suc t) c) ≡ false → (signal_at d c.thing).input ≡ true → ⊥
       of_an_input e input =
-          both_ways _ calm ((are.sets.moves c.thing).1 (of_input c (and_from (signal_at d c.thing).input _ input (lt-ltb _ _ below), λ told f. differ e (ap (λ u. dump.values u c) (sym back) ∙ f))))
+          both_ways _ calm ((are.moves c.thing).1 (of_input c (and_from (signal_at d c.thing).input _ input (lt-ltb _ _ below), λ told f. differ e (ap (λ u. dump.values u c) (sym back) ∙ f))))
 
       before : a.kept c ≡ Some (dump.values t c)
       before = sure_at a.kept (dump.values t) (signal_cells d c.thing) (at_start (a_signal c.thing) (signal_bits d (dump.values t) c.thing) (bound_clear d h dump t c.thing shown.0 bound (is.fits.signals c.thing bound))) c (signal_has d c below)

@@ -8,7 +8,7 @@ use Rattle.event_machine.specs.Habit.{Habit}
 use Rattle.event_machine.specs.Laws.{EarlyLaw}
 use Rattle.design_model.specs.four_state.declared.bit.Bit.{Bit}
 use Rattle.design_model.specs.declared.point.Point.{Point}
-use Rattle.design_model.specs.Design.{Design, In, IsClocked, IsThing, Thing, a_signal, a_word, body_at, cell, cells, process_at, signal_at}
+use Rattle.design_model.specs.Design.{Design, In, IsClocked, IsThing, Thing, a_signal, a_word, body_at, cell, cells, process_at}
 use Rattle.design_model.specs.Mentions.{body_assigns, has_cell}
 use Rattle.design_model.specs.Execution.{execution}
 use Rattle.design_model.specs.Machine.{machine}
@@ -23,9 +23,9 @@ use Rattle.replay_model.proofs.AskedLaws.{AskedLaws}
 use Rattle.body_replay.specs.Contract.{all_written, clean, flushed, sure_in}
 use Rattle.body_replay.specs.Replay.{flush}
 use Rattle.body_replay.specs.Runs.{Runs, StoreView, seen_of}
-use Rattle.replay_model.specs.Sets.{AreFirstSets, Sets}
+use Rattle.replay_model.specs.Sets.{AreSets, Sets}
 use Rattle.replay_model.specs.Tables.{Tables}
-use Rattle.replay_model.specs.Step.{Closing, Replay, all_run, clocked_run, entry_kept, is_dumped, opened, plain_store, run_all_clean}
+use Rattle.replay_model.specs.Step.{Closing, Replay, all_run, clean_order, clocked_run, entry_kept, is_dumped, opened, plain_store, run_all_clean}
 use Rattle.replay_model.specs.Laws.{IsReplayOf, closing_at}
 use Rattle.replay_model.proofs.Allows.{past}
 use Rattle.replay_model.proofs.Bits.{all_in}
@@ -33,10 +33,11 @@ use Rattle.replay_model.proofs.ClockedKept.{OwnRun, away_from, clocked_final, cl
 use Rattle.replay_model.proofs.Grows.{Within, sample, sample_agrees, within_agrees, reads_within}
 use Rattle.replay_model.proofs.Reasons.{entry_within, in_owner, map_same, map_sure}
 use Rattle.replay_model.proofs.SettleReasons.{sure_at}
-use Rattle.replay_model.proofs.Targets.{input_unassigned, one_assigner, own_not_early, single_input, target_assigns}
+use Rattle.replay_model.proofs.Targets.{one_assigner, own_not_early, target_assigns}
+use Rattle.replay_model.proofs.Rounds.{own_not_trigger}
 use Rattle.design_model.specs.Shows.{IsListed, IsWindow}
 
-module _ (d : Design) (h : Habit) (early_law : EarlyLaw (machine d)) (dump : BoundDump) (run : Runs) (tables : Tables) (points : List Point) (is : IsReplayOf d h dump run tables points) (asked : AskedLaws d) (t : ℕ) (window : IsWindow dump (suc t)) (listed : IsListed dump (suc t)) (sets : Sets) (are : AreFirstSets d h dump (suc t) sets) (a : Replay) (at_start : (x : Thing) (bits : List Bit) → clear d h dump t x bits → sure_in d a.kept x bits) where
+module _ (d : Design) (h : Habit) (early_law : EarlyLaw (machine d)) (dump : BoundDump) (run : Runs) (tables : Tables) (points : List Point) (is : IsReplayOf d h dump run tables points) (asked : AskedLaws d) (t : ℕ) (window : IsWindow dump (suc t)) (listed : IsListed dump (suc t)) (sets : Sets) (are : AreSets d h dump (suc t) sets) (a : Replay) (at_start : (x : Thing) (bits : List Bit) → clear d h dump t x bits → sure_in d a.kept x bits) where
   abbrev st : Closing
   st = closing_at d dump run tables sets t a
 
@@ -56,8 +57,8 @@ module _ (d : Design) (h : Habit) (early_law : EarlyLaw (machine d)) (dump : Bou
       same : (c : Cell) → In c (cells d x) → (all_run st).kept c ≡ a.kept c
       same c inside =
           clocked_final d h early_law dump run tables points is t sets are a p target.is_clocked c mine (undumped x target.is_thing free c inside)
-          ∙ clocked_stays d h early_law dump run tables points is t sets are a c (λ q y ran. away_from d h early_law dump run tables points is t sets are a c q (λ at. never (cell ran.0 0, (are.sets.trigger p ran.0 (subst (λ z. sets.trigger z ≡ Some ran.0) (is_p q at) ran.1)).can_wake)))
-          (λ q y ran. away_from d h early_law dump run tables points is t sets are a c q (λ at. never (cell ran.1.0 0, are.sets.wakes p ran.1.0 (subst (λ z. sets.wakes z ≡ Some ran.1.0) (is_p q at) ran.1.1))))
+          ∙ clocked_stays d h early_law dump run tables points is t sets are a c (λ q y ran. away_from d h early_law dump run tables points is t sets are a c q (λ at. never (cell ran.0 0, (are.trigger p ran.0 (subst (λ z. sets.trigger z ≡ Some ran.0) (is_p q at) ran.1)).can_wake)))
+          (λ q y ran. away_from d h early_law dump run tables points is t sets are a c q (λ at. never (cell ran.1.0 0, are.wakes p ran.1.0 (subst (λ z. sets.wakes z ≡ Some ran.1.0) (is_p q at) ran.1.1))))
         where
           mine : body_assigns c.thing (body_at d p) ≡ true
           mine = subst (λ z. body_assigns z (body_at d p) ≡ true) (sym (in_owner d x c inside)) target.target
@@ -70,7 +71,7 @@ module _ (d : Design) (h : Habit) (early_law : EarlyLaw (machine d)) (dump : Bou
   written_left p c0 x bits value = go (sets.trigger p) refl
     where
       go : (o : Option ℕ) → sets.trigger p ≡ o → sure_in d (flush (clocked_run st).kept (clocked_run st).queue) x bits
-      go None e = absurd (are.sets.no_trigger p e c0 value.is_clean)
+      go None e = absurd (are.no_trigger p e c0 value.is_clean)
       go (Some s) e = map_sure (flush (clocked_run st).kept (clocked_run st).queue) (put_all (sample a.kept) (all_written d (body_at d p) v0)) (cells d x) each ∙ ap (map Some) whole
         where
           v0 : Values Bit
@@ -85,7 +86,7 @@ module _ (d : Design) (h : Habit) (early_law : EarlyLaw (machine d)) (dump : Bou
           owns : (c : Cell) → In c (cells d x) → body_assigns c.thing (body_at d p) ≡ true
           owns c inside = subst (λ z. body_assigns z (body_at d p) ≡ true) (sym (in_owner d x c inside)) value.writer.target
 
-          left : (c : Cell) → In c (cells d x) → (k : OwnRun d h early_law dump run tables points is t sets are a p s c (run_all_clean st tables.clocked (opened st))) × (flush (clocked_run st).kept (clocked_run st).queue c ≡ flushed (run p k.store (clean (suc t))) c)
+          left : (c : Cell) → In c (cells d x) → (k : OwnRun d h early_law dump run tables points is t sets are a p s c (run_all_clean st (clean_order st) (opened st))) × (flush (clocked_run st).kept (clocked_run st).queue c ≡ flushed (run p k.store (clean (suc t))) c)
           left c inside = own_left d h early_law dump run tables points is t sets are a p s (clocked_known p value.writer.is_clocked) e value.writer.is_clocked c (owns c inside)
 
           -- what the block knows is sure as it reads
@@ -103,8 +104,8 @@ module _ (d : Design) (h : Habit) (early_law : EarlyLaw (machine d)) (dump : Bou
           hidden : (c : Cell) (inside : In c (cells d x)) → (left c inside).0.store.hidden c.thing ≡ false
           hidden c inside =
               ap (λ f. f c.thing) (left c inside).0.hides
-              ∙ or_from (c.thing == s) _ (ne_eqb c.thing s (λ q. input_unassigned d is.lawful p c.thing (subst (λ z. (signal_at d z).input ≡ true) (sym q) (and_parts (signal_at d s).input _ (single_input d dump (suc t) are.first_round (cell s 0) (are.sets.trigger p s e).is_single).0).0) (owns c inside)))
-              (false_from_ne_true _ (λ q. own_not_early d is.lawful h dump (suc t) early_law are.first_round p (cell s 0) value.writer.is_clocked (are.sets.trigger p s e) c.thing (owns c inside) ((are.sets.early p (cell s 0) (are.sets.trigger p s e) c.thing).0 q)))
+              ∙ or_from (c.thing == s) _ (ne_eqb c.thing s (λ q. own_not_trigger d is.lawful dump (suc t) p (cell s 0) (are.trigger p s e) (sets.round p) (are.round p s e) (subst (λ z. body_assigns z (body_at d p) ≡ true) q (owns c inside))))
+              (false_from_ne_true _ (λ q. own_not_early d is.lawful h dump (suc t) early_law p (cell s 0) value.writer.is_clocked (are.trigger p s e) c.thing (owns c inside) ((are.early p (cell s 0) (are.trigger p s e) c.thing).0 q)))
 
           told : (c : Cell) (inside : In c (cells d x)) → ReadsWithin d (sure_in d (seen_of (left c inside).0.store)) (body_at d p)
           told c inside =

@@ -1,5 +1,5 @@
 -- The Clocked processes of a closing step: what their runs leave allows the settled values at the step's end.
-use Rattle.std.proofs.Common.{◌≡◌, ◌⊎◌, inl, inr, ⊎_elim, ℕ, suc, ◌<◌, Bool, true, false, ◌||◌, ◌==◌, List, [], ◌∷◌, ◌++◌, refl, sym, ap, subst, ◌∙◌, arith, Option, Some, None, if◌then◌else◌}
+use Rattle.std.proofs.Common.{◌≡◌, ◌⊎◌, inl, inr, ⊎_elim, ℕ, suc, ◌<◌, ◌≤◌, Bool, true, false, ◌||◌, ◌==◌, List, [], ◌∷◌, ◌++◌, refl, sym, ap, subst, ◌∙◌, arith, Option, Some, None, if◌then◌else◌}
 use Rattle.std.proofs.lemmas.Bool.{and_parts, and_from, both_ways, cases_Bool, eqb-true, eq-eqb, ne_eqb, false_from_ne_true, ltb-true, lt-ltb, or_from, or_left, or_right}
 use Rattle.event_machine.specs.Cell.{Cell, Update, UpdatesCell, Values, WritesCell, put_all, join}
 use Rattle.event_machine.specs.Machine.{IsTarget, output}
@@ -28,12 +28,13 @@ use Rattle.body_replay.specs.Replay.{flush}
 use Rattle.body_replay.specs.Runs.{AreRuns, Runs, seen_of}
 use Rattle.body_replay.specs.Store.{AllowsState, Kept}
 use Rattle.body_replay.specs.known_state.Join.{join_bit}
-use Rattle.replay_model.specs.Sets.{AreFirstSets, Sets}
+use Rattle.replay_model.specs.Sets.{AreSets, Sets}
 use Rattle.replay_model.specs.Tables.{AreTables, Tables}
-use Rattle.replay_model.specs.Step.{Closing, Replay, Working, after_clocked, clean_store, clocked_run, dumped, is_dumped, opened, plain_store, run_all_clean, run_all_weak, run_clean, run_weak}
+use Rattle.replay_model.specs.Step.{Closing, Replay, Working, after_clocked, clean_order, clean_store, clocked_run, dumped, is_dumped, opened, plain_store, run_all_clean, run_all_weak, run_clean, run_weak}
 use Rattle.replay_model.specs.Laws.{closing_at}
 use Rattle.replay_model.proofs.Bits.{flush_append, flush_same, in_left, join_left, join_right}
-use Rattle.replay_model.proofs.Targets.{blocks_assigns, blocks_not_queues, input_unassigned, not_blocking, not_queueing, one_assigner, others_early, own_not_early, queues_assigns, queues_from, single_input, target_assigns, target_or}
+use Rattle.replay_model.proofs.Targets.{blocks_assigns, blocks_not_queues, input_unassigned, not_blocking, not_queueing, one_assigner, own_not_early, queues_assigns, queues_from, target_assigns, target_or}
+use Rattle.replay_model.proofs.Rounds.{AreSorted, in_order, order_distinct, order_in, order_sorted, others_early, own_not_trigger}
 
 pub at_true : {A : Type 0} (P : A → Type 0) (b : Bool) (x y : A) → b ≡ true → P x → P (if b then x else y)
 at_true P b x y e h = subst (λ z. P (if z then x else y)) (sym e) h
@@ -76,7 +77,7 @@ pub distinct_left : (xs ys : List ℕ) → AreDistinct (xs ++ ys) → AreDistinc
 distinct_left [] ys once = tt
 distinct_left (x ∷ xs) ys once = (λ h. once.0 (in_left x xs ys h), distinct_left xs ys once.1)
 
-module _ (d : Design) (lawful : IsLawfulDesign d) (h : Habit) (early_law : EarlyLaw (machine d)) (dump : BoundDump) (fits : IsDumpOf d dump) (run : Runs) (runs : AreRuns d run) (tables : Tables) (t : ℕ) (sets : Sets) (are : AreFirstSets d h dump (suc t) sets) (a : Replay) (u w : Values Bit) (facts : StepFacts d h dump t u w) (starts : AllowsState a.kept u) where
+module _ (d : Design) (lawful : IsLawfulDesign d) (h : Habit) (early_law : EarlyLaw (machine d)) (dump : BoundDump) (fits : IsDumpOf d dump) (run : Runs) (runs : AreRuns d run) (tables : Tables) (t : ℕ) (sets : Sets) (are : AreSets d h dump (suc t) sets) (a : Replay) (u w : Values Bit) (facts : StepFacts d h dump t u w) (starts : AllowsState a.kept u) where
   abbrev st : Closing
   st = closing_at d dump run tables sets t a
 
@@ -136,8 +137,15 @@ module _ (d : Design) (lawful : IsLawfulDesign d) (h : Habit) (early_law : Early
   own_before Ran wk inv p is fresh c mine =
       ⊎_elim (λ e. e) (λ s. absurd (fresh (subst Ran (one_assigner d lawful p s.0 c.thing is mine (target_assigns d lawful s.0 c (inl s.2))) s.1))) (inv.start_or c)
 
+  -- those that have run are clean, and of no later round than p
+  abbrev AllBefore : (ℕ → Type 0) → ℕ → Type 0
+  AllBefore Ran p = (q : ℕ) → Ran q → (x : ℕ) × (sets.trigger q ≡ Some x) × (sets.round q ≤ sets.round p)
+
   -- what a clean block reads allows the values on which it is evaluated
-  module _ (Ran : ℕ → Type 0) (wk : Working) (inv : ClockedSound Ran wk) (all_clean : (q : ℕ) → Ran q → (e : Cell) × IsCleanAt d dump (suc t) q e) (p : ℕ) (fresh : Ran p → ⊥) (s : ℕ) (is_clean : IsCleanAt d dump (suc t) p (cell s 0)) (evaluated : CleanEvaluation d h dump t u w p (cell s 0)) where
+  module _ (Ran : ℕ → Type 0) (wk : Working) (inv : ClockedSound Ran wk) (p : ℕ) (all_before : AllBefore Ran p) (fresh : Ran p → ⊥) (s : ℕ) (has : sets.trigger p ≡ Some s) (evaluated : CleanEvaluation d h dump t u w p (cell s 0)) where
+    abbrev is_clean : IsCleanAt d dump (suc t) p (cell s 0)
+    is_clean = are.trigger p s has
+
     one_bit : (signal_at d s).width ≡ 1
     one_bit = (edge_one d (process_at d p) is_clean.can_wake.0.0 (cell s 0) is_clean.can_wake.0.1 (lawful.events p)).2
 
@@ -177,27 +185,29 @@ module _ (d : Design) (lawful : IsLawfulDesign d) (h : Habit) (early_law : Early
         (at_false (λ z. Allows z (evaluated.entry c)) _ _ _ e (⊎_elim (λ i. at_true (λ z. Allows z (evaluated.entry c)) _ _ _ i (of_input c i (cases_Bool (is_dumped d dump.bound c)))) (λ i. at_false (λ z. Allows z (evaluated.entry c)) _ _ _ i tt) (cases_Bool (signal_at d c.thing).input)))
 
     at_other : (c : Cell) → (c.thing == s) ≡ false → sets.early p c.thing ≡ false → Allows (seen_of (clean_store st p s wk) c) (evaluated.entry c)
-    at_other c e late = at_false (λ z. Allows z (evaluated.entry c)) _ _ _ (or_from (c.thing == s) _ e late) (⊎_elim kept moved (inv.start_or c))
+    at_other c e_off late = at_false (λ z. Allows z (evaluated.entry c)) _ _ _ (or_from (c.thing == s) _ e_off late) (⊎_elim kept moved (inv.start_or c))
       where
         not_early : IsEarlyAt d h dump (suc t) p (cell s 0) c.thing → ⊥
-        not_early x = both_ways _ late ((are.sets.early p (cell s 0) is_clean c.thing).1 x)
+        not_early x = both_ways _ late ((are.early p (cell s 0) is_clean c.thing).1 x)
 
         is_start : evaluated.entry c ≡ u c
-        is_start = evaluated.others c (λ q. both_ways _ e (eq-eqb c.thing s q)) not_early
+        is_start = evaluated.others c (λ q. both_ways _ e_off (eq-eqb c.thing s q)) not_early
 
         kept : inv.mid c ≡ u c → Allows (wk.kept c) (evaluated.entry c)
         kept m = subst (Allows (wk.kept c)) (m ∙ sym is_start) (inv.allowed c)
 
         moved : (q : ℕ) × Ran q × ((machine d).blocking q c ≡ true) → Allows (wk.kept c) (evaluated.entry c)
-        moved q = absurd (not_early (others_early d lawful h dump (suc t) early_law are.first_round p q.0 (cell s 0) (all_clean q.0 q.1).0 is_clean (all_clean q.0 q.1).1 (λ e. fresh (subst Ran e q.1)) c q.2))
+        moved q =
+            let before = all_before q.0 q.1 in
+            absurd (not_early (others_early d lawful dump (suc t) h p q.0 (cell s 0) (cell before.0 0) is_clean (are.trigger q.0 before.0 before.1) (sets.round p) (sets.round q.0) (are.round p s has) (are.round q.0 before.0 before.1) before.2 (λ e. fresh (subst Ran e q.1)) c q.2 (λ e. both_ways _ e_off (eq-eqb c.thing s e))))
 
     pub reads_entry : AllowsState (seen_of (clean_store st p s wk)) evaluated.entry
     reads_entry c = ⊎_elim (at_trigger c) (λ e. ⊎_elim (at_early c e) (at_other c e) (cases_Bool (sets.early p c.thing))) (cases_Bool (c.thing == s))
 
     own_shown : IsClocked (process_at d p) → (c : Cell) → body_assigns c.thing (body_at d p) ≡ true → ((c.thing == s) || sets.early p c.thing) ≡ false
     own_shown is c mine =
-        or_from (c.thing == s) _ (ne_eqb c.thing s (λ e. input_unassigned d lawful p c.thing (subst (λ z. (signal_at d z).input ≡ true) (sym e) (and_parts (signal_at d s).input _ (single_input d dump (suc t) are.first_round (cell s 0) is_clean.is_single).0).0) mine))
-        (false_from_ne_true _ (λ e. own_not_early d lawful h dump (suc t) early_law are.first_round p (cell s 0) is is_clean c.thing mine ((are.sets.early p (cell s 0) is_clean c.thing).0 e)))
+        or_from (c.thing == s) _ (ne_eqb c.thing s (λ e. own_not_trigger d lawful dump (suc t) p (cell s 0) is_clean (sets.round p) (are.round p s has) (subst (λ z. body_assigns z (body_at d p) ≡ true) e mine)))
+        (false_from_ne_true _ (λ e. own_not_early d lawful h dump (suc t) early_law p (cell s 0) is is_clean c.thing mine ((are.early p (cell s 0) is_clean c.thing).0 e)))
 
     pub clean_leaves : IsClocked (process_at d p) → Leaves p wk (run p (clean_store st p s wk) (clean (suc t)))
     clean_leaves is =
@@ -255,12 +265,12 @@ module _ (d : Design) (lawful : IsLawfulDesign d) (h : Habit) (early_law : Early
   abbrev Wider : (ℕ → Type 0) → (ℕ → Type 0) → ℕ → ℕ → Type 0
   Wider Ran Of p q = Ran q ⊎ ((q ≡ p) × Of q)
 
-  clean_one : (Ran : ℕ → Type 0) (wk : Working) → ClockedSound Ran wk → ((q : ℕ) → Ran q → (e : Cell) × IsCleanAt d dump (suc t) q e) → (p : ℕ) → (Ran p → ⊥) → IsClocked (process_at d p) → (o : Option ℕ) → sets.trigger p ≡ o → ClockedSound (Wider Ran RanClean p) (run_clean st o p wk)
-  clean_one Ran wk inv all_clean p fresh is None e =
+  clean_one : (Ran : ℕ → Type 0) (wk : Working) → ClockedSound Ran wk → (p : ℕ) → AllBefore Ran p → (Ran p → ⊥) → IsClocked (process_at d p) → (o : Option ℕ) → sets.trigger p ≡ o → ClockedSound (Wider Ran RanClean p) (run_clean st o p wk)
+  clean_one Ran wk inv p all_before fresh is None e =
       renamed Ran (Wider Ran RanClean p) wk (λ q r. inl r) (λ q r. ⊎_elim (λ x. x) (λ x. absurd (some_none (sets.trigger p) x.1.0 (subst (λ z. sets.trigger z ≡ Some x.1.0) x.0 x.1.1) e)) r) inv
-  clean_one Ran wk inv all_clean p fresh is (Some s) e =
+  clean_one Ran wk inv p all_before fresh is (Some s) e =
       renamed (λ q. Ran q ⊎ (q ≡ p)) (Wider Ran RanClean p) (after_clocked st p (run p (clean_store st p s wk) (clean (suc t))) wk) (λ q r. ⊎_elim (λ x. inl x) (λ x. inr (x, at_process RanClean p q x (s, e))) r) (λ q r. ⊎_elim (λ x. inl x) (λ x. inr x.0) r)
-      (after Ran wk p (run p (clean_store st p s wk) (clean (suc t))) inv fresh is (clean_leaves Ran wk inv all_clean p fresh s (are.sets.trigger p s e) (facts.clean p (cell s 0) (are.sets.trigger p s e)) is))
+      (after Ran wk p (run p (clean_store st p s wk) (clean (suc t))) inv fresh is (clean_leaves Ran wk inv p all_before fresh s e (facts.clean p (cell s 0) (are.trigger p s e)) is))
 
   abbrev Also : (ℕ → Type 0) → (ℕ → Type 0) → List ℕ → ℕ → Type 0
   Also Ran Of ps q = Ran q ⊎ (In q ps × Of q)
@@ -277,12 +287,13 @@ module _ (d : Design) (lawful : IsLawfulDesign d) (h : Habit) (early_law : Early
   also_wider Ran Of p ps q (inl r) = inl (inl r)
   also_wider Ran Of p ps q (inr r) = ⊎_elim (λ e. inl (inr (sym e, r.1))) (λ h. inr (h, r.1)) r.0
 
-  clean_all : (Ran : ℕ → Type 0) (ps : List ℕ) (wk : Working) → ClockedSound Ran wk → ((q : ℕ) → Ran q → (e : Cell) × IsCleanAt d dump (suc t) q e) → ((q : ℕ) → In q ps → Ran q → ⊥) → AreDistinct ps → ((q : ℕ) → In q ps → IsClocked (process_at d q)) → ClockedSound (Also Ran RanClean ps) (run_all_clean st ps wk)
-  clean_all Ran [] wk inv all_clean fresh once is = renamed Ran (Also Ran RanClean []) wk (λ q r. inl r) (λ q r. ⊎_elim (λ x. x) (λ x. absurd x.0) r) inv
-  clean_all Ran (p ∷ ps) wk inv all_clean fresh once is =
+  clean_all : (Ran : ℕ → Type 0) (ps : List ℕ) (wk : Working) → ClockedSound Ran wk → ((p : ℕ) → In p ps → AllBefore Ran p) → ((q : ℕ) → In q ps → Ran q → ⊥) → AreDistinct ps → AreSorted sets.round ps → ((q : ℕ) → In q ps → IsClocked (process_at d q)) → ClockedSound (Also Ran RanClean ps) (run_all_clean st ps wk)
+  clean_all Ran [] wk inv all_before fresh once sorted is = renamed Ran (Also Ran RanClean []) wk (λ q r. inl r) (λ q r. ⊎_elim (λ x. x) (λ x. absurd x.0) r) inv
+  clean_all Ran (p ∷ ps) wk inv all_before fresh once sorted is =
       renamed (Also (Wider Ran RanClean p) RanClean ps) (Also Ran RanClean (p ∷ ps)) (run_all_clean st ps (run_clean st (sets.trigger p) p wk)) (wider_also Ran RanClean p ps) (also_wider Ran RanClean p ps)
-      (clean_all (Wider Ran RanClean p) ps (run_clean st (sets.trigger p) p wk) (clean_one Ran wk inv all_clean p (fresh p (inl refl)) (is p (inl refl)) (sets.trigger p) refl)
-      (λ q r. ⊎_elim (all_clean q) (λ x. (cell x.1.0 0, are.sets.trigger q x.1.0 x.1.1)) r) (λ q h r. ⊎_elim (fresh q (inr h)) (λ x. distinct_head p q ps once h x.0) r) once.1 (λ q h. is q (inr h)))
+      (clean_all (Wider Ran RanClean p) ps (run_clean st (sets.trigger p) p wk) (clean_one Ran wk inv p (all_before p (inl refl)) (fresh p (inl refl)) (is p (inl refl)) (sets.trigger p) refl)
+      (λ r h q ran. ⊎_elim (all_before r (inr h) q) (λ x. (x.1.0, x.1.1, subst (λ z. sets.round z ≤ sets.round r) (sym x.0) (sorted.0 r h))) ran)
+      (λ q h r. ⊎_elim (fresh q (inr h)) (λ x. distinct_head p q ps once h x.0) r) once.1 sorted.1 (λ q h. is q (inr h)))
 
   weak_one : (Ran : ℕ → Type 0) (wk : Working) → ClockedSound Ran wk → (p : ℕ) → (RanWeak p → Ran p → ⊥) → IsClocked (process_at d p) → (o : Option ℕ) → sets.trigger p ≡ o → (n : Option ℕ) → sets.wakes p ≡ n → ClockedSound (Wider Ran RanWeak p) (run_weak st o n p wk)
   weak_one Ran wk inv p fresh is (Some s) e n f =
@@ -302,7 +313,10 @@ module _ (d : Design) (lawful : IsLawfulDesign d) (h : Habit) (early_law : Early
 
   module _ (tabled : AreTables d dump.bound tables) where
     abbrev RanAll : ℕ → Type 0
-    RanAll = Also (Also (λ q. ⊥) RanClean tables.clocked) RanWeak tables.clocked
+    RanAll = Also (Also (λ q. ⊥) RanClean (clean_order st)) RanWeak tables.clocked
+
+    clocked_once : AreDistinct tables.clocked
+    clocked_once = distinct_left tables.clocked (tables.order ++ tables.last) tabled.once
 
     is_clocked : (q : ℕ) → In q tables.clocked → IsClocked (process_at d q)
     is_clocked q h = ((tabled.clocked q).0 h).1
@@ -312,8 +326,9 @@ module _ (d : Design) (lawful : IsLawfulDesign d) (h : Habit) (early_law : Early
 
     pub all_ran : ClockedSound RanAll (clocked_run st)
     all_ran =
-        weak_all (Also (λ q. ⊥) RanClean tables.clocked) tables.clocked (run_all_clean st tables.clocked (opened st)) (clean_all (λ q. ⊥) tables.clocked (opened st) begun (λ q r. absurd r) (λ q h r. r) (distinct_left tables.clocked (tables.order ++ tables.last) tabled.once) is_clocked)
-        (λ q h can r. ⊎_elim (λ x. x) (λ x. some_none (sets.trigger q) x.1.0 x.1.1 can.0) r) (distinct_left tables.clocked (tables.order ++ tables.last) tabled.once) is_clocked
+        weak_all (Also (λ q. ⊥) RanClean (clean_order st)) tables.clocked (run_all_clean st (clean_order st) (opened st))
+        (clean_all (λ q. ⊥) (clean_order st) (opened st) begun (λ p h q r. absurd r) (λ q h r. r) (order_distinct sets.round tables.clocked clocked_once) (order_sorted sets.round tables.clocked) (λ q h. is_clocked q (in_order sets.round q tables.clocked h)))
+        (λ q h can r. ⊎_elim (λ x. x) (λ x. some_none (sets.trigger q) x.1.0 x.1.1 can.0) r) clocked_once is_clocked
 
     -- what a Clocked assigns is allowed as it is at the end
     pub clocked_allowed : (p : ℕ) → In p tables.clocked → (c : Cell) → body_assigns c.thing (body_at d p) ≡ true → Allows (flush (clocked_run st).kept (clocked_run st).queue c) (w c)
@@ -325,9 +340,9 @@ module _ (d : Design) (lawful : IsLawfulDesign d) (h : Habit) (early_law : Early
             (subst (Allows ((clocked_run st).kept c)) (own_before RanAll (clocked_run st) all_ran p (is_clocked p h) fresh c mine ∙ ⊎_elim (λ target. sym (facts.asleep p (is_clocked p h) never c target)) (λ away. sym (own_stays p (is_clocked p h) c mine away)) (target_or d p c)) (all_ran.allowed c))
 
         go : (o : Option ℕ) → sets.trigger p ≡ o → (n : Option ℕ) → sets.wakes p ≡ n → Allows (flush (clocked_run st).kept (clocked_run st).queue c) (w c)
-        go (Some s) e n f = all_ran.final p (inl (inr (h, (s, e)))) c mine
+        go (Some s) e n f = all_ran.final p (inl (inr (order_in sets.round p tables.clocked h, (s, e)))) c mine
         go None e (Some s) f = all_ran.final p (inr (h, (e, (s, f)))) c mine
-        go None e None f = asleep (λ r. ⊎_elim (λ x. ⊎_elim (λ y. y) (λ y. some_none (sets.trigger p) y.1.0 y.1.1 e) x) (λ x. some_none (sets.wakes p) x.1.1.0 x.1.1.1 f) r) (are.sets.no_wakes p f)
+        go None e None f = asleep (λ r. ⊎_elim (λ x. ⊎_elim (λ y. y) (λ y. some_none (sets.trigger p) y.1.0 y.1.1 e) x) (λ x. some_none (sets.wakes p) x.1.1.0 x.1.1.1 f) r) (are.no_wakes p f)
 
     -- and all else as it is at the start
     pub others_allowed : (c : Cell) → ((p : ℕ) → In p tables.clocked → body_assigns c.thing (body_at d p) ≡ true → ⊥) → Allows (flush (clocked_run st).kept (clocked_run st).queue c) (u c)
@@ -337,5 +352,5 @@ module _ (d : Design) (lawful : IsLawfulDesign d) (h : Habit) (early_law : Early
       where
         in_list : (q : ℕ) → RanAll q → In q tables.clocked
         in_list q (inl (inl r)) = absurd r
-        in_list q (inl (inr r)) = r.0
+        in_list q (inl (inr r)) = in_order sets.round q tables.clocked r.0
         in_list q (inr r) = r.0

@@ -6,7 +6,7 @@ use Rattle.event_machine.specs.Habit.{Habit}
 use Rattle.event_machine.specs.Laws.{EarlyLaw}
 use Rattle.event_machine.specs.Machine.{IsTarget}
 use Rattle.design_model.specs.declared.point.Point.{Point}
-use Rattle.design_model.specs.Design.{AreDistinct, Design, In, IsClocked, body_at, cell, process_at}
+use Rattle.design_model.specs.Design.{AreDistinct, Design, In, IsClocked, body_at, process_at}
 use Rattle.design_model.specs.Mentions.{blocking_target, body_assigns, nonblocking_target}
 use Rattle.design_model.specs.Machine.{machine}
 use Rattle.design_model.specs.Shows.{BoundDump}
@@ -14,17 +14,18 @@ use Rattle.body_replay.specs.Contract.{Outcome, clean, flushed, weak}
 use Rattle.body_replay.specs.Replay.{flush}
 use Rattle.body_replay.specs.Runs.{Runs, StoreView, seen_of}
 use Rattle.body_replay.specs.Store.{Kept}
-use Rattle.replay_model.specs.Sets.{AreFirstSets, Sets}
+use Rattle.replay_model.specs.Sets.{AreSets, Sets}
 use Rattle.replay_model.specs.Tables.{Tables}
-use Rattle.replay_model.specs.Step.{Closing, Replay, Working, after_clocked, all_run, clean_store, clocked_run, entry_kept, is_dumped, is_loose, is_touched, opened, plain_store, run_all_clean, run_all_settling, run_all_weak, run_clean, run_weak, settle_start}
+use Rattle.replay_model.specs.Step.{Closing, Replay, Working, after_clocked, all_run, clean_order, clean_store, clocked_run, entry_kept, is_dumped, is_loose, is_touched, opened, plain_store, run_all_clean, run_all_settling, run_all_weak, run_clean, run_weak, settle_start}
 use Rattle.replay_model.specs.Laws.{IsReplayOf, closing_at}
 use Rattle.replay_model.proofs.Bits.{any_in, flush_append, flush_same, in_halves}
 use Rattle.replay_model.proofs.Clocked.{at_false, distinct_left}
 use Rattle.replay_model.proofs.Order.{kept_all, made_all, makes}
 use Rattle.replay_model.proofs.Targets.{one_assigner, target_assigns}
-use Rattle.replay_model.proofs.Trace.{AllClean, KeptOr, RanClean, RanWeak, Wider, one_kept, reads_entry}
+use Rattle.replay_model.proofs.Trace.{AreBefore, KeptOr, RanClean, RanWeak, Wider, next_before, one_kept, reads_entry}
+use Rattle.replay_model.proofs.Rounds.{AreSorted, in_order, order_distinct, order_in, order_sorted}
 
-module _ (d : Design) (h : Habit) (early_law : EarlyLaw (machine d)) (dump : BoundDump) (run : Runs) (tables : Tables) (points : List Point) (is : IsReplayOf d h dump run tables points) (t : ℕ) (sets : Sets) (are : AreFirstSets d h dump (suc t) sets) (a : Replay) where
+module _ (d : Design) (h : Habit) (early_law : EarlyLaw (machine d)) (dump : BoundDump) (run : Runs) (tables : Tables) (points : List Point) (is : IsReplayOf d h dump run tables points) (t : ℕ) (sets : Sets) (are : AreSets d h dump (suc t) sets) (a : Replay) where
   abbrev st : Closing
   st = closing_at d dump run tables sets t a
 
@@ -65,7 +66,7 @@ module _ (d : Design) (h : Habit) (early_law : EarlyLaw (machine d)) (dump : Bou
   -- a cell that no Clocked which runs may write stays
   pub clocked_stays : (c : Cell) → ((q : ℕ) → In q tables.clocked → RanClean d is.lawful h early_law dump run is.runs tables t sets are a q → Away c q) → ((q : ℕ) → In q tables.clocked → RanWeak d is.lawful h early_law dump run is.runs tables t sets are a q → Away c q) → flush (clocked_run st).kept (clocked_run st).queue c ≡ a.kept c
   clocked_stays c clean_ones weak_ones =
-      let left = all_weak_away c a.kept (λ b. b) tables.clocked (run_all_clean st tables.clocked (opened st)) (all_clean_away c a.kept (λ b. b) tables.clocked (opened st) (refl, λ b. refl) clean_ones) weak_ones in
+      let left = all_weak_away c a.kept (λ b. b) tables.clocked (run_all_clean st (clean_order st) (opened st)) (all_clean_away c a.kept (λ b. b) (clean_order st) (opened st) (refl, λ b. refl) (λ q i. clean_ones q (in_order sets.round q tables.clocked i))) weak_ones in
       left.1 (clocked_run st).kept ∙ left.0
 
   -- what a clean block leaves of a cell of its own
@@ -76,9 +77,9 @@ module _ (d : Design) (h : Habit) (early_law : EarlyLaw (machine d)) (dump : Bou
     pub kept : store.kept c ≡ a.kept c
     pub left : Left c (run p store (clean (suc t))).kept (λ b. flush b (run p store (clean (suc t))).queue) wk
 
-  find_own : (p s : ℕ) → sets.trigger p ≡ Some s → IsClocked (process_at d p) → (c : Cell) → body_assigns c.thing (body_at d p) ≡ true → (Ran : ℕ → Type 0) (ps : List ℕ) (wk : Working) → KeptOr d is.lawful h early_law dump run is.runs tables t sets are a Ran wk → AllClean d is.lawful h early_law dump run is.runs tables t sets are a Ran → ((q : ℕ) → In q ps → Ran q → ⊥) → AreDistinct ps → In p ps → Left c a.kept (λ b. b) wk → OwnRun p s c (run_all_clean st ps wk)
-  find_own p s e is_clocked c mine Ran [] wk kept all_clean fresh once inside left = absurd inside
-  find_own p s e is_clocked c mine Ran (q ∷ ps) wk kept all_clean fresh once (inl same) left = here (sets.trigger q) refl
+  find_own : (p s : ℕ) → sets.trigger p ≡ Some s → IsClocked (process_at d p) → (c : Cell) → body_assigns c.thing (body_at d p) ≡ true → (Ran : ℕ → Type 0) (ps : List ℕ) (wk : Working) → KeptOr d is.lawful h early_law dump run is.runs tables t sets are a Ran wk → AreBefore d is.lawful h early_law dump run is.runs tables t sets are a Ran ps → ((q : ℕ) → In q ps → Ran q → ⊥) → AreDistinct ps → AreSorted sets.round ps → In p ps → Left c a.kept (λ b. b) wk → OwnRun p s c (run_all_clean st ps wk)
+  find_own p s e is_clocked c mine Ran [] wk kept before fresh once sorted inside left = absurd inside
+  find_own p s e is_clocked c mine Ran (q ∷ ps) wk kept before fresh once sorted (inl same) left = here (sets.trigger q) refl
     where
       away : (r : ℕ) → In r ps → Away c r
       away r x = away_from c r (λ at. once.0 (subst (λ z. In z ps) (one_assigner d is.lawful p r c.thing is_clocked mine (target_assigns d is.lawful r c at) ∙ sym same) x))
@@ -93,7 +94,7 @@ module _ (d : Design) (h : Habit) (early_law : EarlyLaw (machine d)) (dump : Bou
           (subst (λ y. OwnRun q y c (run_all_clean st ps (run_clean st (Some z) q wk))) is_s
           (record {
             store = clean_store st q z wk;
-            reads = reads_entry d is.lawful h early_law dump run is.runs tables t sets are a Ran wk kept all_clean q (fresh q (inl refl)) z f;
+            reads = reads_entry d is.lawful h early_law dump run is.runs tables t sets are a Ran wk kept q (before q (inl refl)) (fresh q (inl refl)) z f;
             hides = refl;
             kept = left.0;
             left = all_clean_away c (run q (clean_store st q z wk) (clean (suc t))).kept (λ b. flush b (run q (clean_store st q z wk) (clean (suc t))).queue) ps (after_clocked st q (run q (clean_store st q z wk) (clean (suc t))) wk)
@@ -105,16 +106,16 @@ module _ (d : Design) (h : Habit) (early_law : EarlyLaw (machine d)) (dump : Bou
             where
               some_same : (o : Option ℕ) → o ≡ Some z → o ≡ Some s → z ≡ s
               some_same o f g = cc
-  find_own p s e is_clocked c mine Ran (q ∷ ps) wk kept all_clean fresh once (inr later) left =
+  find_own p s e is_clocked c mine Ran (q ∷ ps) wk kept before fresh once sorted (inr later) left =
       find_own p s e is_clocked c mine (Wider d is.lawful h early_law dump run is.runs tables t sets are a Ran q) ps (run_clean st (sets.trigger q) q wk) (one_kept d is.lawful h early_law dump run is.runs tables t sets are a Ran wk kept q (sets.trigger q) refl)
-      (λ r x. ⊎_elim (all_clean r) (λ y. (cell y.1.0 0, are.sets.trigger r y.1.0 y.1.1)) x) (λ r x y. ⊎_elim (fresh r (inr x)) (λ z. once.0 (subst (λ v. In v ps) z.0 x)) y) once.1 later
+      (next_before d is.lawful h early_law dump run is.runs tables t sets are a Ran q ps sorted before) (λ r x y. ⊎_elim (fresh r (inr x)) (λ z. once.0 (subst (λ v. In v ps) z.0 x)) y) once.1 sorted.1 later
       (clean_away c a.kept (λ b. b) wk q (sets.trigger q) left (λ ran. away_from c q (λ at. once.0 (subst (λ z. In z ps) (sym (one_assigner d is.lawful p q c.thing is_clocked mine (target_assigns d is.lawful q c at))) later))) refl)
 
   -- at the end of the Clocked
-  pub own_left : (p s : ℕ) → In p tables.clocked → sets.trigger p ≡ Some s → IsClocked (process_at d p) → (c : Cell) → body_assigns c.thing (body_at d p) ≡ true → (k : OwnRun p s c (run_all_clean st tables.clocked (opened st))) × (flush (clocked_run st).kept (clocked_run st).queue c ≡ flushed (run p k.store (clean (suc t))) c)
+  pub own_left : (p s : ℕ) → In p tables.clocked → sets.trigger p ≡ Some s → IsClocked (process_at d p) → (c : Cell) → body_assigns c.thing (body_at d p) ≡ true → (k : OwnRun p s c (run_all_clean st (clean_order st) (opened st))) × (flush (clocked_run st).kept (clocked_run st).queue c ≡ flushed (run p k.store (clean (suc t))) c)
   own_left p s inside e is_clocked c mine =
-      let k = find_own p s e is_clocked c mine (λ q. ⊥) tables.clocked (opened st) (λ b. inl refl) (λ q x. absurd x) (λ q x y. y) (distinct_left tables.clocked (tables.order ++ tables.last) is.tabled.once) inside (refl, λ b. refl) in
-      let left = all_weak_away c (run p k.store (clean (suc t))).kept (λ b. flush b (run p k.store (clean (suc t))).queue) tables.clocked (run_all_clean st tables.clocked (opened st)) k.left
+      let k = find_own p s e is_clocked c mine (λ q. ⊥) (clean_order st) (opened st) (λ b. inl refl) (λ r i q x. absurd x) (λ q x y. y) (order_distinct sets.round tables.clocked (distinct_left tables.clocked (tables.order ++ tables.last) is.tabled.once)) (order_sorted sets.round tables.clocked) (order_in sets.round p tables.clocked inside) (refl, λ b. refl) in
+      let left = all_weak_away c (run p k.store (clean (suc t))).kept (λ b. flush b (run p k.store (clean (suc t))).queue) tables.clocked (run_all_clean st (clean_order st) (opened st)) k.left
       (λ q x ran. away_from c q (λ at. some_none (sets.trigger p) s e (subst (λ z. sets.trigger z ≡ None) (one_assigner d is.lawful p q c.thing is_clocked mine (target_assigns d is.lawful q c at)) ran.0))) in
       (k, left.1 (clocked_run st).kept ∙ flush_same (run p k.store (clean (suc t))).queue (clocked_run st).kept (run p k.store (clean (suc t))).kept c left.0)
     where

@@ -21,7 +21,7 @@ use Rattle.body_replay.specs.Contract.{Outcome, all_written, sure_in}
 use Rattle.body_replay.specs.Replay.{flush}
 use Rattle.body_replay.specs.Runs.{Runs}
 use Rattle.body_replay.specs.Store.{Kept}
-use Rattle.replay_model.specs.Sets.{AreFirstSets, Sets}
+use Rattle.replay_model.specs.Sets.{AreSets, Sets}
 use Rattle.replay_model.specs.Tables.{Tables}
 use Rattle.replay_model.specs.Step.{Closing, Replay, Working, acts, after_settling, all_run, certainty, clocked_run, contradicts, is_comb, is_dumped, is_loose, is_touched, plain_store, run_all_settling, run_settling, settle_start, settled_kept}
 use Rattle.replay_model.specs.Stands.{IsMade, made_kept}
@@ -35,7 +35,7 @@ use Rattle.replay_model.proofs.Reasons.{in_owner, map_same, sure_bit}
 use Rattle.replay_model.proofs.Settling.{level_mentioned, queues_none, strong}
 use Rattle.replay_model.proofs.Targets.{blocks_assigns, blocks_from, input_unassigned, not_queueing, queues_from, target_assigns}
 
-module _ (d : Design) (h : Habit) (early_law : EarlyLaw (machine d)) (dump : BoundDump) (run : Runs) (tables : Tables) (points : List Point) (is : IsReplayOf d h dump run tables points) (t : ℕ) (sets : Sets) (are : AreFirstSets d h dump (suc t) sets) (a : Replay) where
+module _ (d : Design) (h : Habit) (early_law : EarlyLaw (machine d)) (dump : BoundDump) (run : Runs) (tables : Tables) (points : List Point) (is : IsReplayOf d h dump run tables points) (t : ℕ) (sets : Sets) (are : AreSets d h dump (suc t) sets) (a : Replay) where
   abbrev st : Closing
   st = closing_at d dump run tables sets t a
 

@@ -25,7 +25,7 @@ use Rattle.body_replay.specs.Contract.{all_written, sure_in}
 use Rattle.body_replay.specs.Replay.{flush}
 use Rattle.body_replay.specs.Runs.{Runs}
 use Rattle.body_replay.specs.Store.{Kept}
-use Rattle.replay_model.specs.Sets.{AreFirstSets, Sets}
+use Rattle.replay_model.specs.Sets.{AreSets, Sets}
 use Rattle.replay_model.specs.Tables.{Tables}
 use Rattle.replay_model.specs.Step.{Closing, Replay, Working, acts, after_settling, all_run, certainty, clocked_run, contradicts, is_comb, is_dumped, is_loose, is_touched, plain_store, run_all_settling, run_settling, sees_change, settle_start, settled_kept, surely_differ}
 use Rattle.replay_model.specs.Stands.{IsMade, made_kept}
@@ -49,7 +49,7 @@ in_numbers : (n k s : ℕ) → n ≤ s → s < n + k → In s (range_with_len n 
 in_numbers n zero s le lt = absurd (omega (arith, le, lt))
 in_numbers n (suc k) s le lt = ⊎_elim (λ e. inl e) (λ ne. inr (in_numbers (n + 1) k s (omega (arith, le, ne)) (omega (arith, lt)))) (cases_eq n s)
 
-module _ (h : Habit) (d : Design) (dump : BoundDump) (run : Runs) (tables : Tables) (points : List Point) (is : IsReplayOf d h dump run tables points) (asked : AskedLaws d) (t : ℕ) (sets : Sets) (a : Replay) (window : IsWindow dump (suc t)) (listed : IsListed dump (suc t)) (are : AreFirstSets d h dump (suc t) sets) (at_start : (x : Thing) (bits : List Bit) → clear d h dump t x bits → sure_in d a.kept x bits) (agreed : (c : Cell) → contradicts (closing_at d dump run tables sets t a) c ≡ false) where
+module _ (h : Habit) (d : Design) (dump : BoundDump) (run : Runs) (tables : Tables) (points : List Point) (is : IsReplayOf d h dump run tables points) (asked : AskedLaws d) (t : ℕ) (sets : Sets) (a : Replay) (window : IsWindow dump (suc t)) (listed : IsListed dump (suc t)) (are : AreSets d h dump (suc t) sets) (at_start : (x : Thing) (bits : List Bit) → clear d h dump t x bits → sure_in d a.kept x bits) (agreed : (c : Cell) → contradicts (closing_at d dump run tables sets t a) c ≡ false) where
   abbrev st : Closing
   st = closing_at d dump run tables sets t a
 
@@ -70,8 +70,8 @@ module _ (h : Habit) (d : Design) (dump : BoundDump) (run : Runs) (tables : Tabl
       kept_all d h (early_law (machine d)) dump run tables points is t sets are a false tables.last (run_all_settling st true tables.order (settle_start st (clocked_run st))) c (λ q x f. other q f)
       ∙ kept_all d h (early_law (machine d)) dump run tables points is t sets are a true tables.order (settle_start st (clocked_run st)) c (λ q x f. other q f)
       ∙ at_false (λ z. z ≡ flush (clocked_run st).kept (clocked_run st).queue c) (is_dumped d dump.bound c) _ _ away (at_false (λ z. z ≡ flush (clocked_run st).kept (clocked_run st).queue c) (is_loose st c) None (flush (clocked_run st).kept (clocked_run st).queue c) firm refl)
-      ∙ clocked_stays d h (early_law (machine d)) dump run tables points is t sets are a c (λ q x ran. away_from d h (early_law (machine d)) dump run tables points is t sets are a c q (λ at. never q at (inr (cell ran.0 0, (are.sets.trigger q ran.0 ran.1).can_wake))))
-      (λ q x ran. away_from d h (early_law (machine d)) dump run tables points is t sets are a c q (λ at. never q at (inr (cell ran.1.0 0, are.sets.wakes q ran.1.0 ran.1.1))))
+      ∙ clocked_stays d h (early_law (machine d)) dump run tables points is t sets are a c (λ q x ran. away_from d h (early_law (machine d)) dump run tables points is t sets are a c q (λ at. never q at (inr (cell ran.0 0, (are.trigger q ran.0 ran.1).can_wake))))
+      (λ q x ran. away_from d h (early_law (machine d)) dump run tables points is t sets are a c q (λ at. never q at (inr (cell ran.1.0 0, are.wakes q ran.1.0 ran.1.1))))
     where
       other : (q : ℕ) → is_touched st q ≡ true → makes d h (early_law (machine d)) dump run tables points is t sets are a q c ≡ false
       other q f = false_from_ne_true _ (λ m. never q (inl (and_parts (blocking_target d (body_at d q) c) _ m).0) (inl f))

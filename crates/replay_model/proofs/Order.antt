@@ -17,7 +17,7 @@ use Rattle.body_replay.specs.Contract.{Note}
 use Rattle.body_replay.specs.Replay.{flush}
 use Rattle.body_replay.specs.Runs.{Runs}
 use Rattle.body_replay.specs.Store.{Kept}
-use Rattle.replay_model.specs.Sets.{AreFirstSets, Sets}
+use Rattle.replay_model.specs.Sets.{AreSets, Sets}
 use Rattle.replay_model.specs.Tables.{Drives, StandsBefore, Tables}
 use Rattle.replay_model.specs.Step.{Closing, Replay, Working, after_settling, all_run, certainty, clocked_run, contradicts, is_dumped, is_loose, is_touched, plain_store, run_all_settling, run_settling, settle_start, settled_kept}
 use Rattle.replay_model.specs.Laws.{IsReplayOf, closing_at}
@@ -47,7 +47,7 @@ before_after [] p rest q once (inr h) later = once.0 (stands_in q rest p h).0
 before_after (x ∷ pre) p rest q once (inl h) later = once.0 (subst (λ z. In z (pre ++ p ∷ rest)) (sym h.0) (in_right q pre (p ∷ rest) (inr later)))
 before_after (x ∷ pre) p rest q once (inr h) later = before_after pre p rest q once.1 h later
 
-module _ (d : Design) (h : Habit) (early_law : EarlyLaw (machine d)) (dump : BoundDump) (run : Runs) (tables : Tables) (points : List Point) (is : IsReplayOf d h dump run tables points) (t : ℕ) (sets : Sets) (are : AreFirstSets d h dump (suc t) sets) (a : Replay) where
+module _ (d : Design) (h : Habit) (early_law : EarlyLaw (machine d)) (dump : BoundDump) (run : Runs) (tables : Tables) (points : List Point) (is : IsReplayOf d h dump run tables points) (t : ℕ) (sets : Sets) (are : AreSets d h dump (suc t) sets) (a : Replay) where
   abbrev pub st : Closing
   st = closing_at d dump run tables sets t a
 

@@ -20,7 +20,7 @@ use Rattle.body_replay.specs.Runs.{Runs}
 use Rattle.replay_model.specs.Tables.{Tables}
 use Rattle.replay_model.specs.Marks.{IsDoubtMarked, IsHitMarked, Marking}
 use Rattle.replay_model.specs.Step.{Replay, all_run, contradicts, is_comb, is_dumped, is_touched}
-use Rattle.replay_model.specs.Sets.{AreFirstSets, Sets}
+use Rattle.replay_model.specs.Sets.{AreSets, Sets}
 use Rattle.replay_model.specs.Stands.{AreKnown, AreReasoned, IsMade}
 use Rattle.replay_model.proofs.AskedLaws.{AskedLaws, asked_of}
 use Rattle.replay_model.specs.Laws.{IsReplayOf, ReasonedVerdictLaw, RestForcedLaw, RestKnownLaw, RestReasonedLaw, StepKnownLaw, StepReasonedLaw, closed_at, closing_at}
@@ -38,7 +38,7 @@ use Rattle.replay_model.proofs.Trace.{hit_in, in_hit}
 pub step_known :
     (h : Habit)
     → (d : Design) (dump : BoundDump) (run : Runs) (tables : Tables) (points : List Point) → IsReplayOf d h dump run tables points → AskedLaws d
-    → (t : ℕ) (sets : Sets) (a : Replay) → IsWindow dump (suc t) → IsListed dump (suc t) → AreFirstSets d h dump (suc t) sets
+    → (t : ℕ) (sets : Sets) (a : Replay) → IsWindow dump (suc t) → IsListed dump (suc t) → AreSets d h dump (suc t) sets
     → AreKnown d h dump tables t a → ((c : Cell) → contradicts (closing_at d dump run tables sets t a) c ≡ false)
     → AreKnown d h dump tables (suc t) (closed_at d dump run tables points sets t a)
 step_known h d dump run tables points is asked t sets a window listed are known agreed =
@@ -71,7 +71,7 @@ step_known h d dump run tables points is asked t sets a window listed are known 
 step_reasoned :
     (h : Habit)
     → (d : Design) (dump : BoundDump) (run : Runs) (tables : Tables) (points : List Point) → IsReplayOf d h dump run tables points → AskedLaws d
-    → (t : ℕ) (sets : Sets) (a : Replay) → IsWindow dump (suc t) → IsListed dump (suc t) → AreFirstSets d h dump (suc t) sets
+    → (t : ℕ) (sets : Sets) (a : Replay) → IsWindow dump (suc t) → IsListed dump (suc t) → AreSets d h dump (suc t) sets
     → AreKnown d h dump tables t a → ((c : Cell) → contradicts (closing_at d dump run tables sets t a) c ≡ false) → AreReasoned d h dump t a
     → AreReasoned d h dump (suc t) (closed_at d dump run tables points sets t a)
 step_reasoned h d dump run tables points is asked t sets a window listed are known agreed reasoned =

@@ -28,11 +28,11 @@ use Rattle.body_replay.specs.Contract.{Doubted, HasHitNote, IsUnsure, Note, clea
 use Rattle.body_replay.specs.Replay.{Spot, line, node, spot_of, word_read, word_write}
 use Rattle.body_replay.specs.Runs.{HasDoubtNote, Runs, seen_of}
 use Rattle.body_replay.specs.Store.{Kept}
-use Rattle.replay_model.specs.Sets.{AreFirstSets, Sets}
+use Rattle.replay_model.specs.Sets.{AreSets, Sets}
 use Rattle.replay_model.specs.Tables.{Tables}
 use Rattle.replay_model.specs.Step.{Closing, Replay}
 use Rattle.replay_model.specs.Laws.{IsReplayOf, closing_at}
-use Rattle.replay_model.proofs.Targets.{single_input}
+use Rattle.replay_model.proofs.Rounds.{single_bound}
 use Rattle.replay_model.proofs.Clocked.{at_false, at_true}
 use Rattle.replay_model.proofs.Grows.{Within, open_less, sample, sample_agrees, surely_more, visits_more, reads_within}
 use Rattle.replay_model.proofs.Settling.{in_signal, in_word}
@@ -88,7 +88,7 @@ surely_spot d K b (arc_point i name s from to old new) is = absurd is
 surely_spot d K b (word_point m k true) is = (word_write m k, refl)
 surely_spot d K b (word_point m k false) is = (word_read m k, refl)
 
-module _ (d : Design) (h : Habit) (dump : BoundDump) (run : Runs) (tables : Tables) (points : List Point) (is : IsReplayOf d h dump run tables points) (early_law : EarlyLaw (machine d)) (asked : AskedLaws d) (t : ℕ) (window : IsWindow dump (suc t)) (listed : IsListed dump (suc t)) (sets : Sets) (are : AreFirstSets d h dump (suc t) sets) (a : Replay) (at_start : (x : Thing) (bits : List Bit) → clear d h dump t x bits → sure_in d a.kept x bits) where
+module _ (d : Design) (h : Habit) (dump : BoundDump) (run : Runs) (tables : Tables) (points : List Point) (is : IsReplayOf d h dump run tables points) (early_law : EarlyLaw (machine d)) (asked : AskedLaws d) (t : ℕ) (window : IsWindow dump (suc t)) (listed : IsListed dump (suc t)) (sets : Sets) (are : AreSets d h dump (suc t) sets) (a : Replay) (at_start : (x : Thing) (bits : List Bit) → clear d h dump t x bits → sure_in d a.kept x bits) where
   abbrev st : Closing
   st = closing_at d dump run tables sets t a
 
@@ -105,21 +105,21 @@ module _ (d : Design) (h : Habit) (dump : BoundDump) (run : Runs) (tables : Tabl
 
   module _ (p : ℕ) (ns : List Note) (k : CleanRun d is.lawful h early_law dump run is.runs tables t sets are a p ns) where
     abbrev is_clean : IsCleanAt d dump (suc t) p (cell k.trigger 0)
-    is_clean = are.sets.trigger p k.trigger k.is_trigger
+    is_clean = are.trigger p k.trigger k.is_trigger
 
     one : ((cell k.trigger 0).place ≡ 0) × (k.trigger < length d.signals) × ((signal_at d k.trigger).width ≡ 1)
-    one = edge_one d (process_at d p) (are.sets.trigger p k.trigger k.is_trigger).can_wake.0.0 (cell k.trigger 0) (are.sets.trigger p k.trigger k.is_trigger).can_wake.0.1 (is.lawful.events p)
+    one = edge_one d (process_at d p) (are.trigger p k.trigger k.is_trigger).can_wake.0.0 (cell k.trigger 0) (are.trigger p k.trigger k.is_trigger).can_wake.0.1 (is.lawful.events p)
 
     shown_trigger : (c : Cell) → In c (signal_cells d k.trigger) → seen_of k.store c ≡ Some (dump.values (suc t) c)
     shown_trigger c x =
         let at = in_signal d k.trigger c x in
         k.reads c ∙ at_true (λ z. z ≡ Some (dump.values (suc t) c)) _ _ _ (or_left (c.thing == k.trigger) _ (eq-eqb c.thing k.trigger at.0))
         (at_true (λ z. z ≡ Some (dump.values (suc t) c)) _ _ _ (eq-eqb c.thing k.trigger at.0)
-        (at_true (λ z. z ≡ Some (dump.values (suc t) c)) _ _ _ (and_from (dump.bound c.thing) _ (subst (λ z. dump.bound z ≡ true) (sym at.0) (single_input d dump (suc t) are.first_round (cell k.trigger 0) is_clean.is_single).1) (lt-ltb _ _ (subst (λ z. c.place < (signal_at d z).width) (sym at.0) at.1))) refl))
+        (at_true (λ z. z ≡ Some (dump.values (suc t) c)) _ _ _ (and_from (dump.bound c.thing) _ (subst (λ z. dump.bound z ≡ true) (sym at.0) (single_bound d is.lawful dump (suc t) (cell k.trigger 0) is_clean.is_single)) (lt-ltb _ _ (subst (λ z. c.place < (signal_at d z).width) (sym at.0) at.1))) refl))
 
     not_hidden : (c : Cell) → c.thing ≢ k.trigger → (IsEarlyAt d h dump (suc t) p (cell k.trigger 0) c.thing → ⊥) → seen_of k.store c ≡ a.kept c
     not_hidden c other late =
-        k.reads c ∙ at_false (λ z. z ≡ a.kept c) _ _ _ (Rattle.std.proofs.lemmas.Bool.or_from (c.thing == k.trigger) _ (Rattle.std.proofs.lemmas.Bool.ne_eqb c.thing k.trigger other) (false_from_ne_true _ (λ e. late ((are.sets.early p (cell k.trigger 0) is_clean c.thing).0 e)))) refl
+        k.reads c ∙ at_false (λ z. z ≡ a.kept c) _ _ _ (Rattle.std.proofs.lemmas.Bool.or_from (c.thing == k.trigger) _ (Rattle.std.proofs.lemmas.Bool.ne_eqb c.thing k.trigger other) (false_from_ne_true _ (λ e. late ((are.early p (cell k.trigger 0) is_clean c.thing).0 e)))) refl
 
     -- what the block knows on entry is sure as it reads
     pub entry_within : Within (KnownOnEntry d h dump (suc t) p) (sure_in d (seen_of k.store))
@@ -179,14 +179,14 @@ module _ (d : Design) (h : Habit) (dump : BoundDump) (run : Runs) (tables : Tabl
             other q = apart k.trigger one.1 b.1.0 trigger_sure b.1.2 (sym (in_owner d b.1.0 b.1.3.0 b.1.3.1) ∙ q)
 
             not_early : IsEarlyAt d h dump (suc t) p (cell k.trigger 0) b.1.3.0.thing → ⊥
-            not_early q = both_ways _ e ((are.sets.early p (cell k.trigger 0) is_clean y.thing).1 (subst (IsEarlyAt d h dump (suc t) p (cell k.trigger 0)) (in_owner d b.1.0 b.1.3.0 b.1.3.1 ∙ b.1.1) q))
+            not_early q = both_ways _ e ((are.early p (cell k.trigger 0) is_clean y.thing).1 (subst (IsEarlyAt d h dump (suc t) p (cell k.trigger 0)) (in_owner d b.1.0 b.1.3.0 b.1.3.1 ∙ b.1.1) q))
 
         why : (sets.early p y.thing ≡ true) ⊎ (sets.early p y.thing ≡ false) → BlockDoubt d h dump (suc t) y.thing p
-        why (inl e) = doubt_early blame.1.0 (cell k.trigger 0) blame.1.1 is_clean (from blame) ((are.sets.early p (cell k.trigger 0) is_clean y.thing).0 e)
+        why (inl e) = doubt_early blame.1.0 (cell k.trigger 0) blame.1.1 is_clean (from blame) ((are.early p (cell k.trigger 0) is_clean y.thing).0 e)
         why (inr e) = late blame e
 
   -- so is each of a weak run
   pub weak_doubt : (p : ℕ) (ns : List Note) → WeakRun d is.lawful h early_law dump run is.runs tables t sets are a p ns → (x : Point) (s : Spot) (y : Doubted) → IsBlock d x p → HasDoubtNote s y ns → (y.time ≡ suc t) × IsInDoubt d h dump x (suc t) y.thing
   weak_doubt p ns k x s y block told =
       let e : y ≡ record { time = suc t; thing = k.thing } = is.runs.weak_as_told p k.store (suc t) k.thing s y (subst (HasDoubtNote s y) k.notes told) in
-      (ap (λ z. z.time) e, of_block p window block (inl ((cell k.thing 0, are.sets.wakes p k.thing k.by), inl (are.sets.no_trigger p k.not_clean))) (doubt_unclean (cell k.thing 0) (ap (λ z. z.thing) (sym e)) (are.sets.wakes p k.thing k.by) (are.sets.no_trigger p k.not_clean)))
+      (ap (λ z. z.time) e, of_block p window block (inl ((cell k.thing 0, are.wakes p k.thing k.by), inl (are.no_trigger p k.not_clean))) (doubt_unclean (cell k.thing 0) (ap (λ z. z.thing) (sym e)) (are.wakes p k.thing k.by) (are.no_trigger p k.not_clean)))

@@ -27,7 +27,7 @@ use Rattle.body_replay.specs.Contract.{Certainty, Doubted, HasHitNote, IsUnsure,
 use Rattle.body_replay.specs.Replay.{Spot}
 use Rattle.body_replay.specs.Runs.{HasDoubtNote, Runs}
 use Rattle.body_replay.specs.Store.{Kept}
-use Rattle.replay_model.specs.Sets.{AreFirstSets, Sets}
+use Rattle.replay_model.specs.Sets.{AreSets, Sets}
 use Rattle.design_model.specs.BodyLaws.{all_cells, word_indexes, words_cells}
 use Rattle.design_model.proofs.Toggles.{window_shown_at}
 use Rattle.replay_model.specs.Tables.{Tables}
@@ -114,7 +114,7 @@ memory_below d m i c above inside = ⊎_elim (λ lt. lt) (λ le. absurd (empty l
         width : length d.signals + length d.memories ≤ m → (memory_at d m).width ≡ 0
         width le = ap (λ b. (if b then slice_index_or d.memories (m - length d.signals) no_memory else no_memory).width) (le-leb _ _ above) ∙ past_memories d.memories (m - length d.signals) (omega (arith, le))
 
-module _ (d : Design) (h : Habit) (early_law : EarlyLaw (machine d)) (dump : BoundDump) (run : Runs) (tables : Tables) (points : List Point) (is : IsReplayOf d h dump run tables points) (asked : AskedLaws d) (t : ℕ) (window : IsWindow dump (suc t)) (listed : IsListed dump (suc t)) (sets : Sets) (are : AreFirstSets d h dump (suc t) sets) (a : Replay) (at_start : (x : Thing) (bits : List Bit) → clear d h dump t x bits → sure_in d a.kept x bits) (at_end : (x : Thing) (bits : List Bit) → clear d h dump (suc t) x bits → sure_in d (all_run (closing_at d dump run tables sets t a)).kept x bits) where
+module _ (d : Design) (h : Habit) (early_law : EarlyLaw (machine d)) (dump : BoundDump) (run : Runs) (tables : Tables) (points : List Point) (is : IsReplayOf d h dump run tables points) (asked : AskedLaws d) (t : ℕ) (window : IsWindow dump (suc t)) (listed : IsListed dump (suc t)) (sets : Sets) (are : AreSets d h dump (suc t) sets) (a : Replay) (at_start : (x : Thing) (bits : List Bit) → clear d h dump t x bits → sure_in d a.kept x bits) (at_end : (x : Thing) (bits : List Bit) → clear d h dump (suc t) x bits → sure_in d (all_run (closing_at d dump run tables sets t a)).kept x bits) where
   abbrev st : Closing
   st = closing_at d dump run tables sets t a
 
@@ -282,7 +282,7 @@ module _ (d : Design) (h : Habit) (early_law : EarlyLaw (machine d)) (dump : Bou
             let w = in_words d x (word_indexes d x) f.0 inside in
             let is_mem : is_memory d x ≡ true = and_from (nat_le (length d.signals) x) _ (le-leb _ _ (ltb-false _ _ no_signal)) (lt-ltb _ _ (memory_below d x w.0 f.0 (ltb-false _ _ no_signal) w.2)) in
             let range = in_range (min (memory_at d x).first (memory_at d x).last) (max (memory_at d x).first (memory_at d x).last - min (memory_at d x).first (memory_at d x).last + 1) w.0 w.1 in
-            doubt_word w.0 settles (inl listed) (asked.listed_memory p x level is_mem) (is_mem, range.0, span_end (memory_at d x).first (memory_at d x).last w.0 range.1) (unclear f (a_word x w.0) refl w.2) (inr ((are.sets.moves x).0 (not-false _ (or_parts (not (sets.moves x)) _ not_still).0)))
+            doubt_word w.0 settles (inl listed) (asked.listed_memory p x level is_mem) (is_mem, range.0, span_end (memory_at d x).first (memory_at d x).last w.0 range.1) (unclear f (a_word x w.0) refl w.2) (inr ((are.moves x).0 (not-false _ (or_parts (not (sets.moves x)) _ not_still).0)))
 
         go : (b : Bool) → nat_lt x (length d.signals) ≡ b → In found.0 (if b then signal_cells d x else words_cells d x (word_indexes d x)) → BlockDoubt d h dump (suc t) x p
         go true e inside = of_signal found e inside

@@ -26,7 +26,7 @@ use Rattle.body_replay.specs.KnownBits.{Allows}
 use Rattle.body_replay.specs.Replay.{Spot, line, node, word_read, word_write}
 use Rattle.body_replay.specs.Runs.{Runs}
 use Rattle.body_replay.specs.Store.{AllowsState, Kept}
-use Rattle.replay_model.specs.Sets.{AreFirstSets, Sets}
+use Rattle.replay_model.specs.Sets.{AreSets, Sets}
 use Rattle.replay_model.specs.Tables.{Tables}
 use Rattle.replay_model.specs.Marks.{Marking, of_point}
 use Rattle.replay_model.specs.Step.{Closing, Replay, all_point_notes, all_run, are_surely, known_bits, may_be, point_notes, surely_differ, surely_same, tell, mark_toggle}
@@ -112,7 +112,7 @@ toggle_thing d s i = go (signal_at d s).ranged (indexed_cell s (within (signal_a
     go true c e = e
     go false c e = refl
 
-module _ (d : Design) (h : Habit) (dump : BoundDump) (run : Runs) (tables : Tables) (points : List Point) (is : IsReplayOf d h dump run tables points) (laws : StepLaws (machine d) h) (early_law : EarlyLaw (machine d)) (t : ℕ) (window : IsWindow dump (suc t)) (listed : IsListed dump (suc t)) (sets : Sets) (are : AreFirstSets d h dump (suc t) sets) (a : Replay) (r : Run) (showing : IsShowing d h dump (suc t) r) (starts : AllowsState a.kept (settled d r t)) (acted : (p : ℕ) → IsComb (process_at d p) → a.acted p ≡ true → IsLeft d p (settled d r t)) where
+module _ (d : Design) (h : Habit) (dump : BoundDump) (run : Runs) (tables : Tables) (points : List Point) (is : IsReplayOf d h dump run tables points) (laws : StepLaws (machine d) h) (early_law : EarlyLaw (machine d)) (t : ℕ) (window : IsWindow dump (suc t)) (listed : IsListed dump (suc t)) (sets : Sets) (are : AreSets d h dump (suc t) sets) (a : Replay) (r : Run) (showing : IsShowing d h dump (suc t) r) (starts : AllowsState a.kept (settled d r t)) (acted : (p : ℕ) → IsComb (process_at d p) → a.acted p ≡ true → IsLeft d p (settled d r t)) where
   abbrev st : Closing
   st = closing_at d dump run tables sets t a
 
@@ -177,7 +177,7 @@ module _ (d : Design) (h : Habit) (dump : BoundDump) (run : Runs) (tables : Tabl
 
   -- a point on a signal that is hit at this time is told of
   moves_of : (c : Cell) → (settled d r t c ≡ settled d r (suc t) c → ⊥) → sets.moves c.thing ≡ true
-  moves_of c differ = true_from_ne_false _ (λ f. differ (sym (facts.unmoved c (λ m. both_ways _ f ((are.sets.moves c.thing).1 m)))))
+  moves_of c differ = true_from_ne_false _ (λ f. differ (sym (facts.unmoved c (λ m. both_ways _ f ((are.moves c.thing).1 m)))))
 
   if_then : (x : Point) (b : Bool) (ns : List Marking) → b ≡ true → PointNow st x ns → PointNow st x (if b then ns else [])
   if_then x true ns e now = now
@@ -203,7 +203,7 @@ module _ (d : Design) (h : Habit) (dump : BoundDump) (run : Runs) (tables : Tabl
   calm_bits : (s : ℕ) → sets.moves s ≡ false → (cs : List Cell) → ((c : Cell) → In c cs → c.thing ≡ s) → map (settled d r (suc t)) cs ≡ map (settled d r t) cs
   calm_bits s calm [] own = refl
   calm_bits s calm (c ∷ cs) own =
-      Rattle.std.proofs.Common.ap₂ (λ b bs. b ∷ bs) (facts.unmoved c (λ m. both_ways _ calm (subst (λ z. sets.moves z ≡ true) (own c (inl refl)) ((are.sets.moves c.thing).1 m)))) (calm_bits s calm cs (λ b x. own b (inr x)))
+      Rattle.std.proofs.Common.ap₂ (λ b bs. b ∷ bs) (facts.unmoved c (λ m. both_ways _ calm (subst (λ z. sets.moves z ≡ true) (own c (inl refl)) ((are.moves c.thing).1 m)))) (calm_bits s calm cs (λ b x. own b (inr x)))
 
   pub point_marked : (x : Point) → In x points → IsHitAt d dump r x (suc t) → PointNow st x (point_notes st x) ⊎ ((s : Spot) × (spot_at x ≡ Some s) × ((k : StepOf r) × (k.step.time ≡ suc t) × HitIn d r k x))
   point_marked (line_point q k at word) member (inl hit) = inr (line k, refl, hit)

@@ -29,7 +29,7 @@ use Rattle.body_replay.specs.Contract.{spot_at}
 use Rattle.body_replay.specs.Replay.{Spot, line, node, word_read, word_write}
 use Rattle.body_replay.specs.Runs.{Runs}
 use Rattle.body_replay.specs.Store.{AllowsState}
-use Rattle.replay_model.specs.Sets.{AreFirstSets, Sets}
+use Rattle.replay_model.specs.Sets.{AreSets, Sets}
 use Rattle.replay_model.specs.Tables.{Tables}
 use Rattle.replay_model.specs.Marks.{IsKeyOf, IsDoubtMarked, IsHitMarked, IsUnmarked, Marking}
 use Rattle.replay_model.specs.Step.{Replay, all_point_notes, all_run, contradicts}
@@ -84,7 +84,7 @@ spot_or (word_point m k false) = inl (word_read m k, refl)
 no_body : (d : Design) (r : Run) (k : StepOf r) (x : Point) → spot_at x ≡ None → (A : Type 0) → A → A
 no_body d r k x e A y = y
 
-module _ (h : Habit) (d : Design) (dump : BoundDump) (run : Runs) (tables : Tables) (points : List Point) (is : IsReplayOf d h dump run tables points) (asked : AskedLaws d) (t : ℕ) (sets : Sets) (a : Replay) (window : IsWindow dump (suc t)) (listed : IsListed dump (suc t)) (are : AreFirstSets d h dump (suc t) sets) (sound : IsSound d h dump points t a) where
+module _ (h : Habit) (d : Design) (dump : BoundDump) (run : Runs) (tables : Tables) (points : List Point) (is : IsReplayOf d h dump run tables points) (asked : AskedLaws d) (t : ℕ) (sets : Sets) (a : Replay) (window : IsWindow dump (suc t)) (listed : IsListed dump (suc t)) (are : AreSets d h dump (suc t) sets) (sound : IsSound d h dump points t a) where
   abbrev laws : StepLaws (machine d) h
   laws = step_laws (machine d) (machine_lawful d is.lawful) h
 

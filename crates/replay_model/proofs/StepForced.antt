@@ -12,7 +12,7 @@ use Rattle.design_model.specs.Shows.{BoundDump, IsListed, IsWindow}
 use Rattle.design_model.specs.Clear.{IsForcedBy, IsWrittenValue, at_first, by_clocked, by_comb, by_net, clear, unmoved}
 use Rattle.body_replay.specs.Contract.{sure_in}
 use Rattle.body_replay.specs.Runs.{Runs}
-use Rattle.replay_model.specs.Sets.{AreFirstSets, Sets}
+use Rattle.replay_model.specs.Sets.{AreSets, Sets}
 use Rattle.replay_model.specs.Tables.{Tables}
 use Rattle.replay_model.specs.Step.{Closing, Replay, all_run, contradicts}
 use Rattle.replay_model.specs.Stands.{AreForced, AreKnown}
@@ -29,7 +29,7 @@ use Rattle.replay_model.proofs.ReasonedLaws.{step_known}
 use Rattle.replay_model.proofs.SettleReasons.{sure_at}
 use Rattle.replay_model.proofs.Settling.{in_signal}
 
-module _ (h : Habit) (d : Design) (dump : BoundDump) (run : Runs) (tables : Tables) (points : List Point) (is : IsReplayOf d h dump run tables points) (asked : AskedLaws d) (t : ℕ) (sets : Sets) (a : Replay) (window : IsWindow dump (suc t)) (listed : IsListed dump (suc t)) (are : AreFirstSets d h dump (suc t) sets) (known : AreKnown d h dump tables t a) (agreed : (c : Cell) → contradicts (closing_at d dump run tables sets t a) c ≡ false) where
+module _ (h : Habit) (d : Design) (dump : BoundDump) (run : Runs) (tables : Tables) (points : List Point) (is : IsReplayOf d h dump run tables points) (asked : AskedLaws d) (t : ℕ) (sets : Sets) (a : Replay) (window : IsWindow dump (suc t)) (listed : IsListed dump (suc t)) (are : AreSets d h dump (suc t) sets) (known : AreKnown d h dump tables t a) (agreed : (c : Cell) → contradicts (closing_at d dump run tables sets t a) c ≡ false) where
   abbrev st : Closing
   st = closing_at d dump run tables sets t a
 
@@ -58,7 +58,7 @@ module _ (h : Habit) (d : Design) (dump : BoundDump) (run : Runs) (tables : Tabl
   forced_step : (s : ℕ) (bits : List Bit) → dump.bound s ≡ true → (signal_at d s).input ≡ false → IsForcedBy d h dump (suc t) s bits → signal_bits d (dump.values (suc t)) s ≡ bits
   forced_step s bits bound plain (at_first first net) = absurd (not_window dump.times (suc t) (suc t) first window (omega arith))
   forced_step s bits bound plain (unmoved in_window calm e) =
-      map_same (dump.values (suc t)) (dump.values t) (signal_cells d s) (λ c inside. sym (calm_dumped h d dump run tables points is asked t sets a window listed are known.is_clear agreed c (signal_dumped d dump.bound s c bound inside) (subst (λ z. sets.moves z ≡ false) (sym (in_signal d s c inside).0) (false_from_ne_true _ (λ m. calm ((are.sets.moves s).0 m))))))
+      map_same (dump.values (suc t)) (dump.values t) (signal_cells d s) (λ c inside. sym (calm_dumped h d dump run tables points is asked t sets a window listed are known.is_clear agreed c (signal_dumped d dump.bound s c bound inside) (subst (λ z. sets.moves z ≡ false) (sym (in_signal d s c inside).0) (false_from_ne_true _ (λ m. calm ((are.moves s).0 m))))))
       ∙ ap (λ u. signal_bits d (dump.values u) s) (sym back) ∙ sym e
   forced_step s bits bound plain (by_net in_window moves net) =
       sure_dumped s bits bound (net_clear d h dump run tables points is asked (suc t) (clear d h dump t) (all_run st).kept (all_run st).acted (final_dumped d h (early_law (machine d)) dump run tables points is t sets are a) last.made last.has_acted

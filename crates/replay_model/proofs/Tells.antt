@@ -28,10 +28,10 @@ use Rattle.body_replay.specs.Contract.{Doubted, HasHitNote, Note, spot_at, sure_
 use Rattle.body_replay.specs.Replay.{Spot}
 use Rattle.body_replay.specs.Runs.{Runs}
 use Rattle.body_replay.specs.Store.{Kept}
-use Rattle.replay_model.specs.Sets.{AreFirstSets, Sets}
+use Rattle.replay_model.specs.Sets.{AreSets, Sets}
 use Rattle.replay_model.specs.Tables.{Tables}
 use Rattle.replay_model.specs.Marks.{IsKeyOf, IsDoubtMarked, IsHitMarked, Marking, markings_by, of_process}
-use Rattle.replay_model.specs.Step.{Closing, Replay, all_point_notes, all_run, are_surely, clocked_run, is_dumped, is_touched, known_bits, may_be, opened, point_notes, run_all_clean, run_all_settling, settle_start, surely_differ, surely_same, tell, mark_toggle}
+use Rattle.replay_model.specs.Step.{Closing, Replay, all_point_notes, all_run, are_surely, clean_order, clocked_run, is_dumped, is_touched, known_bits, may_be, opened, point_notes, run_all_clean, run_all_settling, settle_start, surely_differ, surely_same, tell, mark_toggle}
 use Rattle.replay_model.specs.Laws.{IsReplayOf, closing_at}
 use Rattle.replay_model.proofs.Bits.{in_any, in_halves, in_left}
 use Rattle.replay_model.proofs.Allows.{past}
@@ -42,7 +42,7 @@ use Rattle.replay_model.proofs.Order.{MeetingRun, last_runs, of_last, of_order, 
 use Rattle.replay_model.proofs.Reasons.{clean_doubt, clean_reached, sure_bit, weak_doubt}
 use Rattle.replay_model.proofs.SettleReasons.{one_unknown, settle_doubt, settle_reached}
 use Rattle.replay_model.proofs.SignalPoints.{in_point_notes, note_key, told_of, toggle_thing}
-use Rattle.replay_model.proofs.Trace.{CleanRun, Traced, WeakRun, all_traced, doubt_in, in_doubt, in_hit, weak_all}
+use Rattle.replay_model.proofs.Trace.{CleanRun, Traced, WeakRun, doubt_in, in_doubt, in_hit, order_traced, weak_all}
 
 -- the cell of a toggle point lies within its signal
 indexed_in : (s width : ℕ) (index : ℤ) → 0 < width → (indexed_cell s (within width index)).place < width
@@ -84,16 +84,16 @@ at_all f [] s e below = absurd (omega (arith, below))
 at_all f (x ∷ xs) zero e below = (and_parts (f x) _ e).0
 at_all f (x ∷ xs) (suc s) e below = at_all f xs s (and_parts (f x) _ e).1 (omega (arith, below))
 
-module _ (d : Design) (h : Habit) (early_law : EarlyLaw (machine d)) (dump : BoundDump) (run : Runs) (tables : Tables) (points : List Point) (is : IsReplayOf d h dump run tables points) (asked : AskedLaws d) (t : ℕ) (window : IsWindow dump (suc t)) (listed : IsListed dump (suc t)) (sets : Sets) (are : AreFirstSets d h dump (suc t) sets) (a : Replay) (at_start : (x : Thing) (bits : List Bit) → clear d h dump t x bits → sure_in d a.kept x bits) (at_end : (x : Thing) (bits : List Bit) → clear d h dump (suc t) x bits → sure_in d (all_run (closing_at d dump run tables sets t a)).kept x bits) where
+module _ (d : Design) (h : Habit) (early_law : EarlyLaw (machine d)) (dump : BoundDump) (run : Runs) (tables : Tables) (points : List Point) (is : IsReplayOf d h dump run tables points) (asked : AskedLaws d) (t : ℕ) (window : IsWindow dump (suc t)) (listed : IsListed dump (suc t)) (sets : Sets) (are : AreSets d h dump (suc t) sets) (a : Replay) (at_start : (x : Thing) (bits : List Bit) → clear d h dump t x bits → sure_in d a.kept x bits) (at_end : (x : Thing) (bits : List Bit) → clear d h dump (suc t) x bits → sure_in d (all_run (closing_at d dump run tables sets t a)).kept x bits) where
   abbrev st : Closing
   st = closing_at d dump run tables sets t a
 
-  clean_told : Traced (CleanRun d is.lawful h early_law dump run is.runs tables t sets are a) (λ q. In q tables.clocked × ((s : ℕ) × (sets.trigger q ≡ Some s))) a.notes (run_all_clean st tables.clocked (opened st)).notes
+  clean_told : Traced (CleanRun d is.lawful h early_law dump run is.runs tables t sets are a) (λ q. In q tables.clocked × ((s : ℕ) × (sets.trigger q ≡ Some s))) a.notes (run_all_clean st (clean_order st) (opened st)).notes
   clean_told =
-      all_traced d is.lawful h early_law dump run is.runs tables t sets are a (λ q. ⊥) tables.clocked (opened st) (λ c. inl refl) (λ q x. absurd x) (λ q x y. y) (distinct_left tables.clocked (tables.order ++ tables.last) is.tabled.once)
+      order_traced d is.lawful h early_law dump run is.runs tables t sets are a (distinct_left tables.clocked (tables.order ++ tables.last) is.tabled.once)
 
-  weak_told : Traced (WeakRun d is.lawful h early_law dump run is.runs tables t sets are a) (λ q. In q tables.clocked × ((sets.trigger q ≡ None) × ((s : ℕ) × (sets.wakes q ≡ Some s)))) (run_all_clean st tables.clocked (opened st)).notes (clocked_run st).notes
-  weak_told = weak_all d is.lawful h early_law dump run is.runs tables t sets are a tables.clocked (run_all_clean st tables.clocked (opened st))
+  weak_told : Traced (WeakRun d is.lawful h early_law dump run is.runs tables t sets are a) (λ q. In q tables.clocked × ((sets.trigger q ≡ None) × ((s : ℕ) × (sets.wakes q ≡ Some s)))) (run_all_clean st (clean_order st) (opened st)).notes (clocked_run st).notes
+  weak_told = weak_all d is.lawful h early_law dump run is.runs tables t sets are a tables.clocked (run_all_clean st (clean_order st) (opened st))
 
   pub kept_told : (n : Marking) → In n a.notes → In n (all_run st).notes
   kept_told n y = (last_runs d h early_law dump run tables points is t sets are a).keeps n ((order_runs d h early_law dump run tables points is t sets are a).keeps n (weak_told.keeps n (clean_told.keeps n y)))
@@ -127,7 +127,7 @@ module _ (d : Design) (h : Habit) (early_law : EarlyLaw (machine d)) (dump : Bou
           let b = key_spot x n p s.0 key s.1 in
           weak_doubt d h dump run tables points is early_law asked t window listed sets are a at_start p ns k x s.0 y b.1 s.2
 
-      in_clean : In n (run_all_clean st tables.clocked (opened st)).notes → In n a.notes ⊎ DoubtNow x y
+      in_clean : In n (run_all_clean st (clean_order st) (opened st)).notes → In n a.notes ⊎ DoubtNow x y
       in_clean z = ⊎_elim (λ v. inl v) (λ k. inr (of_clean k.0 k.1 k.2 k.3)) (clean_told.from n z)
 
       in_clocked : In n (clocked_run st).notes → In n a.notes ⊎ DoubtNow x y
@@ -228,7 +228,7 @@ module _ (d : Design) (h : Habit) (early_law : EarlyLaw (machine d)) (dump : Bou
         by_clean c = go (sets.trigger p) refl
           where
             go : (o : Option ℕ) → sets.trigger p ≡ o → IsHitMarked d x After
-            go None e = absurd (are.sets.no_trigger p e c.0 c.1)
+            go None e = absurd (are.no_trigger p e c.0 c.1)
             go (Some s) e =
                 let k = clean_told.has p (clocked_known p (edge_clocked (process_at d p) c.1.can_wake.0.0 c.0 c.1.can_wake.0.1), (s, e)) in
                 let n = clean_reached d h dump run tables points is early_law asked t window listed sets are a at_start p k.0 k.1 x c.2 in

@@ -1,6 +1,6 @@
 -- What a closing step tells the marks: the notes of which runs, on which stores.
-use Rattle.std.proofs.Common.{◌≡◌, ◌⊎◌, inl, inr, ⊎_elim, ℕ, suc, Bool, true, false, ◌||◌, ◌==◌, List, [], ◌∷◌, ◌++◌, refl, sym, subst, ◌∙◌, Option, Some, None, if◌then◌else◌}
-use Rattle.std.proofs.lemmas.Bool.{both_ways, cases_Bool, or_from}
+use Rattle.std.proofs.Common.{◌≡◌, ◌⊎◌, inl, inr, ⊎_elim, ℕ, suc, ◌≤◌, Bool, true, false, ◌||◌, ◌==◌, List, [], ◌∷◌, ◌++◌, refl, sym, subst, ◌∙◌, Option, Some, None, if◌then◌else◌}
+use Rattle.std.proofs.lemmas.Bool.{both_ways, cases_Bool, or_from, or_left, or_right}
 use Rattle.std.proofs.lemmas.Bool.{eq-eqb}
 use Rattle.event_machine.specs.Cell.{Cell}
 use Rattle.event_machine.specs.Habit.{Habit}
@@ -8,18 +8,17 @@ use Rattle.event_machine.specs.Laws.{EarlyLaw}
 use Rattle.design_model.specs.Design.{AreDistinct, Design, In, cell}
 use Rattle.design_model.specs.Machine.{machine}
 use Rattle.design_model.specs.Shows.{BoundDump}
-use Rattle.design_model.specs.MayMove.{IsCleanAt}
 use Rattle.design_model.specs.Lawful.{IsLawfulDesign}
 use Rattle.design_model.specs.declared.point.Point.{Point}
 use Rattle.body_replay.specs.Contract.{Doubted, Note, clean, weak}
 use Rattle.body_replay.specs.Runs.{AreRuns, Runs, StoreView, seen_of}
-use Rattle.replay_model.specs.Sets.{AreFirstSets, Sets}
+use Rattle.replay_model.specs.Sets.{AreSets, Sets}
 use Rattle.replay_model.specs.Tables.{Tables}
 use Rattle.replay_model.specs.Marks.{IsKeyOf, IsDoubtMarked, IsHitMarked, Marking, markings_by}
-use Rattle.replay_model.specs.Step.{Closing, Replay, Working, all_run, certainty, clean_store, clocked_run, entry, entry_kept, is_touched, opened, plain_store, run_all_clean, run_all_settling, run_all_weak, run_clean, run_settling, run_weak, settle_start, settled_kept}
+use Rattle.replay_model.specs.Step.{Closing, Replay, Working, all_run, certainty, clean_order, clean_store, clocked_run, entry, entry_kept, is_touched, opened, plain_store, run_all_clean, run_all_settling, run_all_weak, run_clean, run_settling, run_weak, settle_start, settled_kept}
 use Rattle.replay_model.specs.Laws.{closing_at}
 use Rattle.replay_model.proofs.Bits.{in_halves, in_left, in_right}
-use Rattle.replay_model.proofs.Targets.{others_early}
+use Rattle.replay_model.proofs.Rounds.{AreSorted, order_distinct, order_in, order_sorted, others_early}
 
 -- what was told of a point stands in the list
 pub hit_in : (d : Design) (x : Point) (ns : List Marking) → IsHitMarked d x ns → (n : Marking) × In n ns × IsKeyOf d x n.key × (n.doubt ≡ None)
@@ -75,7 +74,7 @@ traced_weaker Of Of' M N xs ys wider fewer a =
       has = λ p m. let k = a.has p (fewer p m) in (k.0, wider p k.0 k.1, k.2);
     }
 
-module _ (d : Design) (lawful : IsLawfulDesign d) (h : Habit) (early_law : EarlyLaw (machine d)) (dump : BoundDump) (run : Runs) (runs : AreRuns d run) (tables : Tables) (t : ℕ) (sets : Sets) (are : AreFirstSets d h dump (suc t) sets) (a : Replay) where
+module _ (d : Design) (lawful : IsLawfulDesign d) (h : Habit) (early_law : EarlyLaw (machine d)) (dump : BoundDump) (run : Runs) (runs : AreRuns d run) (tables : Tables) (t : ℕ) (sets : Sets) (are : AreSets d h dump (suc t) sets) (a : Replay) where
   abbrev st : Closing
   st = closing_at d dump run tables sets t a
 
@@ -98,16 +97,26 @@ module _ (d : Design) (lawful : IsLawfulDesign d) (h : Habit) (early_law : Early
   abbrev pub KeptOr : (ℕ → Type 0) → Working → Type 0
   KeptOr Ran wk = (c : Cell) → (wk.kept c ≡ a.kept c) ⊎ ((q : ℕ) × Ran q × ((machine d).blocking q c ≡ true))
 
-  abbrev pub AllClean : (ℕ → Type 0) → Type 0
-  AllClean Ran = (q : ℕ) → Ran q → (e : Cell) × IsCleanAt d dump (suc t) q e
+  -- those that have run are clean, and of no later round than p
+  abbrev pub IsBefore : (ℕ → Type 0) → ℕ → Type 0
+  IsBefore Ran p = (q : ℕ) → Ran q → (x : ℕ) × (sets.trigger q ≡ Some x) × (sets.round q ≤ sets.round p)
 
-  pub reads_entry : (Ran : ℕ → Type 0) (wk : Working) → KeptOr Ran wk → AllClean Ran → (p : ℕ) → (Ran p → ⊥) → (s : ℕ) → sets.trigger p ≡ Some s → (c : Cell) → seen_of (clean_store st p s wk) c ≡ entry_kept st p s c
-  reads_entry Ran wk kept all_clean p fresh s is c = go ((c.thing == s) || sets.early p c.thing) refl
+  -- so it is of each of these
+  abbrev pub AreBefore : (ℕ → Type 0) → List ℕ → Type 0
+  AreBefore Ran ps = (p : ℕ) → In p ps → IsBefore Ran p
+
+  pub reads_entry : (Ran : ℕ → Type 0) (wk : Working) → KeptOr Ran wk → (p : ℕ) → IsBefore Ran p → (Ran p → ⊥) → (s : ℕ) → sets.trigger p ≡ Some s → (c : Cell) → seen_of (clean_store st p s wk) c ≡ entry_kept st p s c
+  reads_entry Ran wk kept p before fresh s is c = go ((c.thing == s) || sets.early p c.thing) refl
     where
+      moved : ((c.thing == s) || sets.early p c.thing) ≡ false → (q : ℕ) × Ran q × ((machine d).blocking q c ≡ true) → ⊥
+      moved e q =
+          let x = before q.0 q.1 in
+          let off : (c.thing ≡ s) → ⊥ = λ k. both_ways _ e (or_left (c.thing == s) _ (eq-eqb c.thing s k)) in
+          both_ways _ e (or_right (c.thing == s) _ ((are.early p (cell s 0) (are.trigger p s is) c.thing).1
+          (others_early d lawful dump (suc t) h p q.0 (cell s 0) (cell x.0 0) (are.trigger p s is) (are.trigger q.0 x.0 x.1) (sets.round p) (sets.round q.0) (are.round p s is) (are.round q.0 x.0 x.1) x.2 (λ k. fresh (subst Ran k q.1)) c q.2 off)))
+
       same : ((c.thing == s) || sets.early p c.thing) ≡ false → wk.kept c ≡ a.kept c
-      same e =
-          ⊎_elim (λ x. x)
-          (λ x. absurd (both_ways _ e (Rattle.std.proofs.lemmas.Bool.or_right (c.thing == s) _ ((are.sets.early p (cell s 0) (are.sets.trigger p s is) c.thing).1 (others_early d lawful h dump (suc t) early_law are.first_round p x.0 (cell s 0) (all_clean x.0 x.1).0 (are.sets.trigger p s is) (all_clean x.0 x.1).1 (λ q. fresh (subst Ran q x.1)) c x.2))))) (kept c)
+      same e = ⊎_elim (λ x. x) (λ x. absurd (moved e x)) (kept c)
 
       go : (b : Bool) → ((c.thing == s) || sets.early p c.thing) ≡ b → (if b then entry st s c else wk.kept c) ≡ (if b then entry st s c else a.kept c)
       go true e = refl
@@ -130,22 +139,33 @@ module _ (d : Design) (lawful : IsLawfulDesign d) (h : Habit) (early_law : Early
   one_kept Ran wk kept p (Some s) e c =
       ⊎_elim (λ b. inr (p, inr (refl, (s, e)), b)) (λ b. ⊎_elim (λ x. inl (runs.frame p (clean_store st p s wk) (clean (suc t)) c b ∙ x)) (λ x. inr (x.0, inl x.1, x.2)) (kept c)) (cases_Bool ((machine d).blocking p c))
 
-  one_traced : (Ran : ℕ → Type 0) (wk : Working) → KeptOr Ran wk → AllClean Ran → (p : ℕ) → (Ran p → ⊥) → (o : Option ℕ) → sets.trigger p ≡ o → Traced CleanRun (λ q. (q ≡ p) × RanClean q) wk.notes (run_clean st o p wk).notes
-  one_traced Ran wk kept all_clean p fresh None e =
+  -- one more has run
+  pub next_before : (Ran : ℕ → Type 0) (p : ℕ) (ps : List ℕ) → AreSorted sets.round (p ∷ ps) → AreBefore Ran (p ∷ ps) → AreBefore (Wider Ran p) ps
+  next_before Ran p ps sorted before r h q ran =
+      ⊎_elim (before r (inr h) q) (λ x. (x.1.0, x.1.1, subst (λ z. sets.round z ≤ sets.round r) (sym x.0) (sorted.0 r h))) ran
+
+  one_traced : (Ran : ℕ → Type 0) (wk : Working) → KeptOr Ran wk → (p : ℕ) → IsBefore Ran p → (Ran p → ⊥) → (o : Option ℕ) → sets.trigger p ≡ o → Traced CleanRun (λ q. (q ≡ p) × RanClean q) wk.notes (run_clean st o p wk).notes
+  one_traced Ran wk kept p before fresh None e =
       traced_none CleanRun (λ q. (q ≡ p) × RanClean q) (λ q m. some_none (sets.trigger p) m.1.0 (subst (λ z. sets.trigger z ≡ Some m.1.0) m.0 m.1.1) e) wk.notes
-  one_traced Ran wk kept all_clean p fresh (Some s) e =
-      traced_one CleanRun (λ q. (q ≡ p) × RanClean q) p (run p (clean_store st p s wk) (clean (suc t))).notes (record { trigger = s; is_trigger = e; store = clean_store st p s wk; reads = reads_entry Ran wk kept all_clean p fresh s e; notes = refl }) (λ q m. m.0) wk.notes
+  one_traced Ran wk kept p before fresh (Some s) e =
+      traced_one CleanRun (λ q. (q ≡ p) × RanClean q) p (run p (clean_store st p s wk) (clean (suc t))).notes (record { trigger = s; is_trigger = e; store = clean_store st p s wk; reads = reads_entry Ran wk kept p before fresh s e; notes = refl }) (λ q m. m.0) wk.notes
 
   distinct_head : (p q : ℕ) (ps : List ℕ) → AreDistinct (p ∷ ps) → In q ps → q ≡ p → ⊥
   distinct_head p q ps once h e = once.0 (subst (λ z. In z ps) e h)
 
-  pub all_traced : (Ran : ℕ → Type 0) (ps : List ℕ) (wk : Working) → KeptOr Ran wk → AllClean Ran → ((q : ℕ) → In q ps → Ran q → ⊥) → AreDistinct ps → Traced CleanRun (λ q. In q ps × RanClean q) wk.notes (run_all_clean st ps wk).notes
-  all_traced Ran [] wk kept all_clean fresh once = traced_none CleanRun (λ q. In q [] × RanClean q) (λ q m. m.0) wk.notes
-  all_traced Ran (p ∷ ps) wk kept all_clean fresh once =
+  pub all_traced : (Ran : ℕ → Type 0) (ps : List ℕ) (wk : Working) → KeptOr Ran wk → AreBefore Ran ps → ((q : ℕ) → In q ps → Ran q → ⊥) → AreDistinct ps → AreSorted sets.round ps → Traced CleanRun (λ q. In q ps × RanClean q) wk.notes (run_all_clean st ps wk).notes
+  all_traced Ran [] wk kept before fresh once sorted = traced_none CleanRun (λ q. In q [] × RanClean q) (λ q m. m.0) wk.notes
+  all_traced Ran (p ∷ ps) wk kept before fresh once sorted =
       traced_weaker CleanRun CleanRun (λ q. ((q ≡ p) × RanClean q) ⊎ (In q ps × RanClean q)) (λ q. In q (p ∷ ps) × RanClean q) wk.notes (run_all_clean st ps (run_clean st (sets.trigger p) p wk)).notes (λ q ns k. k) (λ q m. ⊎_elim (λ e. inl (sym e, m.1)) (λ k. inr (k, m.1)) m.0)
       (traced_next CleanRun (λ q. (q ≡ p) × RanClean q) (λ q. In q ps × RanClean q) wk.notes (run_clean st (sets.trigger p) p wk).notes (run_all_clean st ps (run_clean st (sets.trigger p) p wk)).notes
-      (one_traced Ran wk kept all_clean p (fresh p (inl refl)) (sets.trigger p) refl)
-      (all_traced (Wider Ran p) ps (run_clean st (sets.trigger p) p wk) (one_kept Ran wk kept p (sets.trigger p) refl) (λ q r. ⊎_elim (all_clean q) (λ x. (cell x.1.0 0, are.sets.trigger q x.1.0 x.1.1)) r) (λ q k r. ⊎_elim (fresh q (inr k)) (λ x. distinct_head p q ps once k x.0) r) once.1))
+      (one_traced Ran wk kept p (before p (inl refl)) (fresh p (inl refl)) (sets.trigger p) refl)
+      (all_traced (Wider Ran p) ps (run_clean st (sets.trigger p) p wk) (one_kept Ran wk kept p (sets.trigger p) refl) (next_before Ran p ps sorted before) (λ q k r. ⊎_elim (fresh q (inr k)) (λ x. distinct_head p q ps once k x.0) r) once.1 sorted.1))
+
+  -- those of the Clocked, in order of rounds
+  pub order_traced : AreDistinct tables.clocked → Traced CleanRun (λ q. In q tables.clocked × RanClean q) a.notes (run_all_clean st (clean_order st) (opened st)).notes
+  order_traced once =
+      traced_weaker CleanRun CleanRun (λ q. In q (clean_order st) × RanClean q) (λ q. In q tables.clocked × RanClean q) a.notes (run_all_clean st (clean_order st) (opened st)).notes (λ q ns k. k) (λ q m. (order_in sets.round q tables.clocked m.0, m.1))
+      (all_traced (λ q. ⊥) (clean_order st) (opened st) (λ c. inl refl) (λ p i q x. absurd x) (λ q x y. y) (order_distinct sets.round tables.clocked once) (order_sorted sets.round tables.clocked))
 
   weak_one : (wk : Working) (p : ℕ) (o : Option ℕ) → sets.trigger p ≡ o → (n : Option ℕ) → sets.wakes p ≡ n → Traced WeakRun (λ q. (q ≡ p) × RanWeak q) wk.notes (run_weak st o n p wk).notes
   weak_one wk p (Some s) e n f = traced_none WeakRun (λ q. (q ≡ p) × RanWeak q) (λ q m. some_none (sets.trigger p) s e (subst (λ z. sets.trigger z ≡ None) m.0 m.1.0)) wk.notes

@@ -16,7 +16,7 @@ use Rattle.design_model.specs.Lawful.{IsLawfulDesign}
 use Rattle.model_laws.specs.Own.{HasOwnWakes}
 use Rattle.body_replay.specs.Contract.{Doubted}
 use Rattle.body_replay.specs.Runs.{AreRuns, Runs}
-use Rattle.replay_model.specs.Sets.{AreFirstSets, Sets}
+use Rattle.replay_model.specs.Sets.{AreSets, Sets}
 use Rattle.replay_model.specs.Tables.{AreTables, Tables}
 use Rattle.replay_model.specs.Marks.{Hit, IsVerdict, Missed, Undetermined}
 use Rattle.replay_model.specs.Step.{Closing, Replay, closed, contradicts}
@@ -61,7 +61,7 @@ FirstSoundLaw =
 abbrev pub StepSoundLaw : Habit → Type 0
 StepSoundLaw h =
     (d : Design) (dump : BoundDump) (run : Runs) (tables : Tables) (points : List Point) → IsReplayOf d h dump run tables points → HasOwnWakes d
-    → (t : ℕ) (sets : Sets) (a : Replay) → IsWindow dump (suc t) → IsListed dump (suc t) → AreFirstSets d h dump (suc t) sets → IsSound d h dump points t a
+    → (t : ℕ) (sets : Sets) (a : Replay) → IsWindow dump (suc t) → IsListed dump (suc t) → AreSets d h dump (suc t) sets → IsSound d h dump points t a
     → IsSound d h dump points (suc t) (closed_at d dump run tables points sets t a)
 
 -- a time that the dump does not list keeps it sound
@@ -82,7 +82,7 @@ FirstKnownLaw =
 abbrev pub StepKnownLaw : Habit → Type 0
 StepKnownLaw h =
     (d : Design) (dump : BoundDump) (run : Runs) (tables : Tables) (points : List Point) → IsReplayOf d h dump run tables points → HasOwnWakes d
-    → (t : ℕ) (sets : Sets) (a : Replay) → IsWindow dump (suc t) → IsListed dump (suc t) → AreFirstSets d h dump (suc t) sets
+    → (t : ℕ) (sets : Sets) (a : Replay) → IsWindow dump (suc t) → IsListed dump (suc t) → AreSets d h dump (suc t) sets
     → AreKnown d h dump tables t a → ((c : Cell) → contradicts (closing_at d dump run tables sets t a) c ≡ false)
     → AreKnown d h dump tables (suc t) (closed_at d dump run tables points sets t a)
 
@@ -97,7 +97,7 @@ RestKnownLaw =
 abbrev pub StepReasonedLaw : Habit → Type 0
 StepReasonedLaw h =
     (d : Design) (dump : BoundDump) (run : Runs) (tables : Tables) (points : List Point) → IsReplayOf d h dump run tables points → HasOwnWakes d
-    → (t : ℕ) (sets : Sets) (a : Replay) → IsWindow dump (suc t) → IsListed dump (suc t) → AreFirstSets d h dump (suc t) sets
+    → (t : ℕ) (sets : Sets) (a : Replay) → IsWindow dump (suc t) → IsListed dump (suc t) → AreSets d h dump (suc t) sets
     → AreKnown d h dump tables t a → ((c : Cell) → contradicts (closing_at d dump run tables sets t a) c ≡ false) → AreReasoned d h dump t a
     → AreReasoned d h dump (suc t) (closed_at d dump run tables points sets t a)
 
@@ -119,7 +119,7 @@ FirstForcedLaw =
 abbrev pub StepForcedLaw : Habit → Type 0
 StepForcedLaw h =
     (d : Design) (dump : BoundDump) (run : Runs) (tables : Tables) (points : List Point) → IsReplayOf d h dump run tables points → HasOwnWakes d
-    → (t : ℕ) (sets : Sets) (a : Replay) → IsWindow dump (suc t) → IsListed dump (suc t) → AreFirstSets d h dump (suc t) sets
+    → (t : ℕ) (sets : Sets) (a : Replay) → IsWindow dump (suc t) → IsListed dump (suc t) → AreSets d h dump (suc t) sets
     → AreKnown d h dump tables t a → ((c : Cell) → contradicts (closing_at d dump run tables sets t a) c ≡ false) → AreForced d h dump t
     → AreForced d h dump (suc t)
 
@@ -139,7 +139,7 @@ FirstStandsLaw =
 abbrev pub StepStandsLaw : Habit → Type 0
 StepStandsLaw h =
     (d : Design) (dump : BoundDump) (run : Runs) (tables : Tables) (points : List Point) → IsReplayOf d h dump run tables points → HasOwnWakes d
-    → (t : ℕ) (sets : Sets) (a : Replay) → IsWindow dump (suc t) → IsListed dump (suc t) → AreFirstSets d h dump (suc t) sets
+    → (t : ℕ) (sets : Sets) (a : Replay) → IsWindow dump (suc t) → IsListed dump (suc t) → AreSets d h dump (suc t) sets
     → ((c : Cell) → contradicts (closing_at d dump run tables sets t a) c ≡ false) → Stands d h dump tables points t a
     → Stands d h dump tables points (suc t) (closed_at d dump run tables points sets t a)
 
@@ -154,7 +154,7 @@ RestStandsLaw =
 abbrev pub ContradictionLaw : Habit → Type 0
 ContradictionLaw h =
     (d : Design) (dump : BoundDump) (run : Runs) (tables : Tables) (points : List Point) → IsReplayOf d h dump run tables points
-    → (t : ℕ) (sets : Sets) (a : Replay) (c : Cell) → IsWindow dump (suc t) → AreFirstSets d h dump (suc t) sets → IsSound d h dump points t a
+    → (t : ℕ) (sets : Sets) (a : Replay) (c : Cell) → IsWindow dump (suc t) → AreSets d h dump (suc t) sets → IsSound d h dump points t a
     → contradicts (closing_at d dump run tables sets t a) c ≡ true → (r : Run) → IsShowing d h dump (suc t) r
     → ⊥
 

@@ -1,6 +1,6 @@
 -- The replay of one closing step, as a function: of what the replay knows at the start of the step, of what may move in
 -- it, and of what the dump says at its end.
-use Rattle.std.specs.Prelude.{ℕ, Bool, true, false, not, ◌==◌, ◌&&◌, ◌||◌, if◌then◌else◌, nat_lt, List, [], ◌∷◌, ◌++◌, map, length, Option, Some, None}
+use Rattle.std.specs.Prelude.{ℕ, Bool, true, false, not, ◌==◌, ◌&&◌, ◌||◌, if◌then◌else◌, nat_le, nat_lt, List, [], ◌∷◌, ◌++◌, map, length, Option, Some, None}
 use Rattle.std.specs.List.{list_all, list_any, range_with_len}
 use Rattle.event_machine.specs.Cell.{Cell, Values}
 use Rattle.design_model.specs.four_state.Vector.{same_bit}
@@ -147,6 +147,24 @@ abbrev pub run_all_clean : Closing → List ℕ → Working → Working
 run_all_clean st [] w = w
 run_all_clean st (p ∷ ps) w = run_all_clean st ps (run_clean st (st.sets.trigger p) p w)
 
+-- a process is put after those that are of no later round
+abbrev pub put_in_round : (ℕ → ℕ) → ℕ → List ℕ → List ℕ
+put_in_round round p [] = p ∷ []
+put_in_round round p (q ∷ qs) = if nat_le (round q) (round p) then q ∷ put_in_round round p qs else p ∷ q ∷ qs
+
+-- so are those of a list, one after the other
+abbrev pub put_in_rounds : (ℕ → ℕ) → List ℕ → List ℕ → List ℕ
+put_in_rounds round [] done = done
+put_in_rounds round (p ∷ ps) done = put_in_rounds round ps (put_in_round round p done)
+
+-- the processes in order of their rounds, those of one round in the order of the list
+abbrev pub in_rounds : (ℕ → ℕ) → List ℕ → List ℕ
+in_rounds round ps = put_in_rounds round ps []
+
+-- the Clocked in the order in which the clean ones run: a block runs before those whose trigger it makes
+abbrev pub clean_order : Closing → List ℕ
+clean_order st = in_rounds st.sets.round st.tables.clocked
+
 -- a Clocked that can wake and is not clean runs weak
 abbrev pub run_weak : Closing → Option ℕ → Option ℕ → ℕ → Working → Working
 run_weak st (Some trigger) wakes p w = w
@@ -243,9 +261,9 @@ run_all_settling st ordered (p ∷ ps) w = run_all_settling st ordered ps (run_s
 abbrev pub opened : Closing → Working
 opened st = record { kept = st.start.kept; queue = []; made = st.start.kept; acted = st.start.acted; notes = st.start.notes }
 
--- after the Clocked
+-- after the Clocked: first the clean ones, in order of rounds
 abbrev pub clocked_run : Closing → Working
-clocked_run st = run_all_weak st st.tables.clocked (run_all_clean st st.tables.clocked (opened st))
+clocked_run st = run_all_weak st st.tables.clocked (run_all_clean st (clean_order st) (opened st))
 
 -- after the Assigns and Combs
 abbrev pub all_run : Closing → Working

@@ -12,7 +12,7 @@ use Rattle.replay_model.specs.design_model.Shows.{BoundDump}
 use Rattle.replay_model.specs.body_replay.Runs.{Runs}
 use Rattle.replay_model.specs.Laws.{closing_at}
 use Rattle.replay_model.specs.Sets.{AreSets, Sets}
-use Rattle.replay_model.specs.Step.{Closing, Replay, Working, after_settling, all_run, certainty, clocked_run, is_dumped, is_loose, is_touched, opened, plain_store, run_all_clean, run_all_settling, run_all_weak, run_settling, settle_start, settled_kept}
+use Rattle.replay_model.specs.Step.{Closing, Replay, Working, after_settling, all_run, certainty, clocked_run, in_rounds, is_dumped, is_loose, is_touched, opened, plain_store, run_all_clean, run_all_settling, run_all_weak, run_settling, settle_start, settled_kept}
 use Rattle.replay_model.specs.Tables.{AreTables, Tables}
 use Rattle.replay_model.proofs.Bits.{any_in, in_any}
 use Rattle.replay_model.proofs.Clocked.{at_false, at_true}
@@ -20,7 +20,7 @@ use Rattle.replay_steps.specs.Settling.{IsDumpStill, IsStillAt, MoveTargets, loo
 
 -- ---- without Clocked processes
 
-no_clocked : (st : Closing) (ps : List ℕ) → ps ≡ [] → run_all_weak st ps (run_all_clean st ps (opened st)) ≡ opened st
+no_clocked : (st : Closing) (ps : List ℕ) → ps ≡ [] → run_all_weak st ps (run_all_clean st (in_rounds st.sets.round ps) (opened st)) ≡ opened st
 no_clocked st [] e = refl
 no_clocked st (p ∷ ps) e = cc
 

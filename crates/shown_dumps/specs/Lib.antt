@@ -1,5 +1,6 @@
 pub mod Said
 pub mod Shown
+pub mod Rounds
 pub mod Bound
 pub mod Laws
 pub mod Ongoing

@@ -22,7 +22,7 @@ abbrev pub value_of_code : List DumpStep → ℕ → Option ℕ → Option Vecto
 value_of_code steps time None = None
 value_of_code steps time (Some code) = value_at steps code time
 
--- what steps say of signals with these codes: the times, which signals have a code, and their bits at each time; derived clocks are no triggers
+-- what steps say of signals with these codes: the times, which signals have a code, and their bits at each time; read by first rounds, where nothing is said of others
 abbrev pub dump_of : List (Option ℕ) → List DumpStep → BoundDump
 dump_of codes steps = record {
   times = times_of steps;

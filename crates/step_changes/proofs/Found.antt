@@ -1,10 +1,10 @@
 -- The changes of a step are those of the dump, and so are the sets that are found by them.
-use Rattle.std.proofs.Common.{◌≡◌, ℕ, ◌+◌, ◌-◌, ◌<◌, ◌≤◌, Bool, true, false, List, [], ◌∷◌, ◌++◌, length, map, get_or, take, Option, Some, None, refl, sym, ap, ap₂, subst, ◌∙◌, arith, ⊎_elim, inl, inr}
+use Rattle.std.proofs.Common.{◌≡◌, ◌≢◌, ℕ, ◌+◌, ◌-◌, ◌<◌, ◌≤◌, Bool, true, false, List, [], ◌∷◌, ◌++◌, length, map, get_or, take, Option, Some, None, refl, sym, ap, ap₂, subst, ◌∙◌, arith, ⊎_elim, inl, inr}
 use Rattle.std.specs.Prelude.{is_some, nat_lt, slice_get, slice_index_or}
 use Rattle.std.specs.List.{All, Contains}
-use Rattle.std.proofs.lemmas.Bool.{and_from, and_parts, false≢true}
+use Rattle.std.proofs.lemmas.Bool.{and_from, and_parts, cases_lt, false≢true}
 use Rattle.std.proofs.lemmas.Bool.Decides.{nat_tests}
-use Rattle.std.proofs.lemmas.List.{get_or-map, get_or_default, length-map, take_more}
+use Rattle.std.proofs.lemmas.List.{get_or-map, get_or_default, get_or_past, length-map, take_more}
 use Rattle.std.proofs.lemmas.List.Elements.{All-from_get_or}
 use Rattle.event_machine.specs.Cell.{Cell}
 use Rattle.event_machine.specs.Told.{IsMovingInput}
@@ -17,6 +17,7 @@ use Rattle.step_values.specs.design_model.MayMove.{told_at}
 use Rattle.step_values.specs.design_model.Shows.{BoundDump}
 use Rattle.step_values.proofs.design_model.AssignLaws.{has_bit}
 use Rattle.code_values.specs.Values.{AddsChanged, IsChanged, Values, value_of}
+use Rattle.early_sets.specs.Rounds.{writer_at}
 use Rattle.early_sets.specs.WakeState.{WakeState}
 use Rattle.early_sets.specs.declared.habit.Habit.{Habit}
 use Rattle.process_order.specs.replay_model.Sets.{AreSets}
@@ -26,7 +27,8 @@ use Rattle.step_values.specs.Loose.{has_code}
 use Rattle.step_values.proofs.Dumps.{bits_in}
 use Rattle.step_wakes.specs.Step.{AreChanges, IsOfDesign, StepSets}
 use Rattle.step_wakes.specs.declared.step.SignalChange.{SignalChange}
-use Rattle.step_wakes.specs.wake_laws.Laws.{HasNoWriters, IsChangedInput, habit_of}
+use Rattle.step_wakes.specs.wake_laws.Laws.{IsChangedInput, habit_of}
+use Rattle.step_wakes.specs.wake_laws.OfDesign.{AreWritersOf}
 use Rattle.step_changes.specs.Changes.{AreChangedSignals, AreSignalsOf, IsDue, change_by, lowest}
 use Rattle.step_changes.proofs.Differing.{apart_at, first_at, same_at}
 
@@ -127,6 +129,14 @@ module _ (d : Design) (dump : BoundDump) (t : ℕ) (flags : List Bool) (codes : 
       let bit = same_at (dump.values (t - 1)) (dump.values t) (cell c.thing) 0 (signal_at d c.thing).width (agree c.thing code is same) c.place inside in
       moving.1 bound (subst (λ i. dump.values (t - 1) (cell c.thing i) ≡ dump.values t (cell c.thing i)) start bit)
 
+  -- a code of a signal of which the lowest bit changes has another value
+  bit_changed : (s code : ℕ) → slice_index_or codes s None ≡ Some code → dump.values (t - 1) (cell s 0) ≢ dump.values t (cell s 0) → IsChanged values code
+  bit_changed s code is ne same =
+      let start : 0 + 0 ≡ 0 = refl in
+      let one = some_bit s code is in
+      let bit = same_at (dump.values (t - 1)) (dump.values t) (cell s) 0 (signal_at d s).width (agree s code is same) 0 (omega (arith, one)) in
+      ne (subst (λ i. dump.values (t - 1) (cell s i) ≡ dump.values t (cell s i)) start bit)
+
   module _ (changed : List ℕ) (are : AreChangedSignals codes values changed) where
     abbrev changes : List SignalChange
     changes = map (change_by codes values) changed
@@ -144,23 +154,38 @@ module _ (d : Design) (dump : BoundDump) (t : ℕ) (flags : List Bool) (codes : 
         let m = (are c.thing).1 (code.0, code.1, input_changed c code.0 code.1 bound moving) in
         (change_by codes values c.thing, refl, map_in (change_by codes values) changed c.thing m)
 
-    no_writer : (p : ℕ) → None ≡ Some p → ⊥
-    no_writer p e = cc
+    -- what may become single and changes is among them
+    candidate : (x p : ℕ) → writer_at w x ≡ Some p → dump.values (t - 1) (cell x 0) ≢ dump.values t (cell x 0) → (e : SignalChange) × (e.signal ≡ x) × Contains changes e
+    candidate x p is ne =
+        let by = (due.writers.is x p inside).0 is in
+        let code = code_of codes x (sym (due.bound x) ∙ by.is_bound) in
+        let m = (are x).1 (code.0, code.1, bit_changed x code.0 code.1 ne) in
+        (change_by codes values x, refl, map_in (change_by codes values) changed x m)
+      where
+        past : w.tables.things ≤ x → ⊥
+        past most =
+            let size = due.writers.count_is in
+            let none = get_or_past w.writers x None (omega (arith, size, most)) in
+            let none_some : None ≡ Some p = sym none ∙ is in
+            cc
 
-    changes_are : (after : WakeState) → HasNoWriters after → AreChanges d dump t after changes
-    changes_are after none =
+        inside : x < w.tables.things
+        inside = ⊎_elim (λ less. less) (λ most. absurd (past most)) (cases_lt x w.tables.things)
+
+    changes_are : (after : WakeState) → after.writers ≡ w.writers → AreChanges d dump t after changes
+    changes_are after same =
         record {
           only = each (λ c. (signal_at d c.signal).input ≡ true → IsChangedInput d dump t c.signal) (λ s code is changes input. changed_input s code is changes input);
           old = each (λ c. c.old ≡ dump.values (t - 1) (cell c.signal 0)) (λ s code is changes. old_bit s code is);
           new = each (λ c. c.new ≡ dump.values t (cell c.signal 0)) (λ s code is changes. new_bit s code is);
           inputs = λ x bound h. subst (λ y. (e : SignalChange) × (e.signal ≡ y) × Contains changes e) h.1 (listed h.0 (subst (λ y. dump.bound y ≡ true) (sym h.1) bound) h.2);
-          candidates = λ x p is ne. absurd (no_writer p (sym (none x) ∙ is));
+          candidates = λ x p is ne. candidate x p (ap (λ xs. get_or xs x None) (sym same) ∙ is) ne;
         }
 
     pub sets_are : (after : WakeState) (h : Habit) (early : ℕ → List ℕ) → IsOfDesign d flags after → after.writers ≡ w.writers → StepSets d flags changes after → AreChosen after h early → AreSets d (habit_of h) dump t (sets_of after early)
     sets_are after h early of same sets chosen =
-        let none : HasNoWriters after = λ x. ap (λ xs. get_or xs x None) same ∙ due.writers x in
-        (sets dump t h early due.lawful (inl (none, due.round)) (λ x input. due.bound x ∙ sym (due.flagged x)) (changes_are after none) chosen).sets
+        let writers : AreWritersOf d dump.bound after.tables.things after.writers = subst (λ ws. AreWritersOf d dump.bound after.tables.things ws) (sym same) (subst (λ n. AreWritersOf d dump.bound n w.writers) (due.tables.tables.things_are ∙ sym of.tables.things_are) due.writers) in
+        sets dump t h early due.lawful (inr (writers, due.round)) (λ x input. due.bound x ∙ sym (due.flagged x)) (changes_are after same) chosen
 
 -- ---- the list of the changes
 

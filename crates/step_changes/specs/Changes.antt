@@ -2,11 +2,14 @@
 use Rattle.std.specs.Prelude.{◌≡◌, ◌<◌, ◌-◌, ◌++◌, ◌↔◌, ℕ, Bool, true, false, List, length, is_some, slice_index_or, Option, Some, None}
 use Rattle.std.specs.List.{Contains, list_any}
 use Rattle.event_machine.specs.Habit.{Habit}
+use Rattle.event_machine.specs.Single.{IsLastRound}
 use Rattle.four_state.specs.Vector.{Vector}
 use Rattle.four_state.specs.declared.bit.Bit.{Bit}
 use Rattle.four_state.specs.declared.bit.Bit.TheVariants.{X}
 use Rattle.step_values.specs.design_model.Design.{Design, In}
 use Rattle.step_values.specs.design_model.Lawful.{IsLawfulDesign}
+use Rattle.step_values.specs.design_model.Machine.{machine}
+use Rattle.step_values.specs.design_model.MayMove.{told_at}
 use Rattle.step_values.specs.design_model.Shows.{BoundDump}
 use Rattle.code_values.specs.Values.{IsChanged, Values, value_of}
 use Rattle.early_sets.specs.Has.{is_in}
@@ -20,8 +23,7 @@ use Rattle.step_values.specs.Dumped.{AreDumped, coded_value}
 use Rattle.step_values.specs.Loose.{has_code}
 use Rattle.step_wakes.specs.Step.{IsOfDesign, flag_at}
 use Rattle.step_wakes.specs.declared.step.SignalChange.{SignalChange}
-use Rattle.step_wakes.specs.wake_laws.Laws.{HasNoWriters}
-use Rattle.step_wakes.specs.wake_laws.OfDesign.{AreTablesOf}
+use Rattle.step_wakes.specs.wake_laws.OfDesign.{AreTablesOf, AreWritersOf}
 
 -- the rows have for each code the signals that have it
 abbrev pub AreSignalsOf : List (Option ℕ) → List (List ℕ) → Type 0
@@ -49,12 +51,12 @@ change_by codes t s =
 abbrev pub AreUnsigned : List (Option Vector) → Type 0
 AreUnsigned values = (code : ℕ) (v : Vector) → value_of values code ≡ Some v → v.signed ≡ false
 
--- the step at time t of a dump is to be closed: these are its codes, their values before and after, and its tables
+-- the step at time t of a dump is to be closed, judged by its last round: these are its codes, their values before and after, and its tables
 pub record IsDue (d : Design) (dump : BoundDump) (t : ℕ) (flags : List Bool) (codes : List (Option ℕ)) (values : Values) (w : WakeState) : Type 0 where
   pub lawful : IsLawfulDesign d
   pub tables : IsOfDesign d flags w
-  pub writers : HasNoWriters w
-  pub round : dump.round t ≡ 0
+  pub writers : AreWritersOf d dump.bound w.tables.things w.writers
+  pub round : IsLastRound (machine d) (told_at dump t) (dump.round t)
   pub bound : (s : ℕ) → dump.bound s ≡ has_code codes s
   pub flagged : (s : ℕ) → flag_at flags s ≡ has_code codes s
   pub signals : (s : ℕ) → dump.bound s ≡ true → s < length d.signals

@@ -12,4 +12,4 @@ mod moves;
 pub use laws::woken_law;
 pub use moves::find_moves;
 pub use step_values::{Piece, StepValues, Store, known_signal};
-pub use step_wakes::{SignalChange, wakes_of};
+pub use step_wakes::SignalChange;

@@ -1,15 +1,15 @@
-ghost use Rattle.std.specs.Prelude.{◌≡◌, ◌<◌, ◌≤◌, [], ℕ, Bool, List, length, true};
+ghost use Rattle.std.specs.Prelude.{◌≡◌, ◌<◌, ◌≤◌, ℕ, Bool, IsSome, List, length, true};
 ghost use Rattle.std.specs.List.{Contains};
 ghost use Rattle.step_values.specs.design_model.Design.{Design};
 ghost use Rattle.step_values.specs.design_model.Shows.{BoundDump};
-ghost use Rattle.early_sets.specs.Rounds.{HasMoves};
+ghost use Rattle.early_sets.specs.Rounds.{HasMoves, round_at, writer_at};
 ghost use Rattle.early_sets.specs.WakeState.{state_of};
 ghost use Rattle.early_sets.specs.declared.habit.Habit.{Habit};
 ghost use Rattle.process_order.specs.replay_model.Sets.{AreSets};
 ghost use Rattle.step_wakes.specs.replay_sets.SetsOf.{AreChosen, sets_of};
 ghost use Rattle.step_values.specs.Loose.{has_code};
 ghost use Rattle.step_wakes.specs.Step.{IsOfDesign};
-ghost use Rattle.step_wakes.specs.wake_laws.Laws.{HasNoWriters, habit_of};
+ghost use Rattle.step_wakes.specs.wake_laws.Laws.{habit_of};
 ghost use Rattle.step_changes.specs.Changes.{AreChangedSignals, AreSignalsOf, IsDue};
 
 use crate::changes::note_changes;
@@ -42,7 +42,8 @@ pub fn find_moves(
     ensures changed { AreChangedSignals codes.now values.now changed.new.items }
     ensures design { (d : Design) (bound : List Bool) → IsOfDesign d bound (state_of sets.old) → IsOfDesign d bound (state_of sets.new) }
     ensures noted { (x : ℕ) → Contains (state_of sets.new).noted x → x < (state_of sets.new).tables.things }
-    ensures derived { HasNoWriters (state_of sets.old) → (state_of sets.new).derived ≡ [] }
+    ensures derived { (x : ℕ) → Contains (state_of sets.new).derived x → IsSome (writer_at (state_of sets.new) x) }
+    ensures rounds { (x : ℕ) → Contains (state_of sets.new).derived x → round_at (state_of sets.new) x ≤ (state_of sets.new).tables.things }
     ensures tables { (state_of sets.new).tables ≡ (state_of sets.old).tables }
     ensures writers { (state_of sets.new).writers ≡ (state_of sets.old).writers }
     ensures moves { HasMoves (state_of sets.new) }

@@ -35,14 +35,9 @@ module _ (w : WakeState) (h : Habit) (all : List ℕ) where
       go false e (inl (inr j)) = inl j
       go false e (inr found) = inr found
 
-  -- one that is not clean
-  pub chosen_past : (p : ℕ) (rest : List ℕ) (early : ℕ → List ℕ) → trigger_of w p ≡ None → AreChosenBut w h all (p ∷ rest) early → AreChosenBut w h all rest early
-  chosen_past p rest early none old q s i trigger = go (old q s i trigger)
-    where
-      go : In q (p ∷ rest) ⊎ IsEarlyList w h q s (early q) → In q rest ⊎ IsEarlyList w h q s (early q)
-      go (inl (inl same)) = let e : Some s ≡ None = sym (subst (λ z. trigger_of w z ≡ Some s) (sym same) trigger) ∙ none in absurd (cc)
-      go (inl (inr j)) = inl j
-      go (inr found) = inr found
-
   pub chosen_end : (rest : List ℕ) (early : ℕ → List ℕ) → rest ≡ [] → AreChosenBut w h all rest early → AreChosenOf w h all early
   chosen_end rest early none old p s i trigger = ⊎_elim (λ j. absurd (subst (In p) none j)) (λ found. found) (old p s i trigger)
+
+  -- those of a list are those of its clean ones
+  pub chosen_all : (listed : List ℕ) (early : ℕ → List ℕ) → ((p s : ℕ) → In p listed → trigger_of w p ≡ Some s → In p all) → AreChosenOf w h all early → AreChosenOf w h listed early
+  chosen_all listed early in_all chosen p s i trigger = chosen p s (in_all p s i trigger) trigger

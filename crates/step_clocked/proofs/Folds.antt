@@ -17,12 +17,12 @@ use Rattle.clocked_marks.specs.chosen_runs.clocked_block.OneRun.{IsRunBy}
 use Rattle.clocked_marks.specs.run_marks.cover_points.Visits.{AreApart, AreOnce}
 use Rattle.clocked_marks.specs.run_marks.cover_points.declared.listing.Points.{Points}
 use Rattle.replay_sets.specs.replay_model.Sets.{Sets}
-use Rattle.replay_sets.specs.replay_model.Step.{Closing, Working, clocked_run, opened, run_all_clean, run_all_weak, run_clean, run_weak}
+use Rattle.replay_sets.specs.replay_model.Step.{Closing, Working, clocked_run, in_rounds, opened, run_all_clean, run_all_weak, run_clean, run_weak}
 use Rattle.replay_sets.proofs.wake_laws.early_sets.Membership.{is_in_from, is_in_gives}
-use Rattle.clocked_laws.proofs.Order.{clocked_filtered, weak_filtered}
-use Rattle.clocked_laws.specs.Clocked.{is_weak}
-use Rattle.step_clocked.specs.Runs.{AreClockedOf, IsClockedStep, is_unclean}
-use Rattle.step_clocked.proofs.Rooms.{at_left_out, at_put_off}
+use Rattle.clocked_laws.proofs.Order.{clean_ordered, clocked_filtered, weak_filtered}
+use Rattle.clocked_laws.specs.Clocked.{is_clean, is_weak}
+use Rattle.step_clocked.specs.Runs.{AreClockedOf, IsClockedStep, clean_in_rounds, is_unclean, runs_clean}
+use Rattle.step_clocked.proofs.Rooms.{at_left_out}
 use Rattle.step_clocked.proofs.Sets.{early_same}
 
 -- ---- what the step says of its processes
@@ -68,14 +68,6 @@ module _ (st : Closing) (ps : Points) (later all : List ℕ) (start : Working) w
       subst (λ o. AtClocked st ps (run_clean st o p u) (rest ++ later) y n) (sym (step_trigger st ps w h codes values time is p ∙ has))
       (subst (λ os. AtClocked st os (run_clean st (Some t) p u) (rest ++ later) y n) points
       (run u (subst AreApart (sym points) is.apart) (subst AreOnce (sym points) is.once) is.by is.dumped (step_early st ps w h codes values time is v same p t has) (subst (λ os. AtClocked st os u (p ∷ (rest ++ later)) x m) (sym points) at))))
-
-  -- one is put off
-  pub cleaned_off : (p : ℕ) (rest : List ℕ) (x : Store) (m : MarkNotes) → st.sets.trigger p ≡ None → HasCleaned st ps (p ∷ rest) later all start x m → HasCleaned st ps rest (later ++ p ∷ []) all start x m
-  cleaned_off p rest x m none h = record {
-    working = h.working;
-    at = at_put_off st ps h.working x m p rest later h.at;
-    leads = ap (λ o. run_all_clean st rest (run_clean st o p h.working)) (sym none) ∙ h.leads;
-  }
 
   -- none is left
   pub cleaned_end : (rest : List ℕ) (x : Store) (m : MarkNotes) → rest ≡ [] → HasCleaned st ps rest later all start x m → AtClocked st ps (run_all_clean st all start) later x m
@@ -127,15 +119,25 @@ module _ (st : Closing) (ps : Points) (all : List ℕ) (start : Working) where
 
 -- those that are not clean run as those of the list that do, so both lead to the end
 pub weak_rest : (st : Closing) (ps : Points) (w : WakeState) (h : Habit) (codes : List (Option ℕ)) (values : Values) (time : ℕ) → IsClockedStep st ps w h codes values time
-    → (listed later : List ℕ) → AreClockedOf st listed → later ≡ filter (is_unclean w) listed → run_all_weak st later (run_all_clean st listed (opened st)) ≡ clocked_run st
+    → (listed later : List ℕ) → AreClockedOf st listed → later ≡ filter (is_unclean w) listed → run_all_weak st later (run_all_clean st (clean_in_rounds w listed) (opened st)) ≡ clocked_run st
 weak_rest st ps w h codes values time is listed later of are =
     ap (λ qs. run_all_weak st qs cleaned) are ∙ sym (weak_filtered st (is_unclean w) listed cleaned unclean) ∙ whole
   where
     cleaned : Working
-    cleaned = run_all_clean st listed (opened st)
+    cleaned = run_all_clean st (clean_in_rounds w listed) (opened st)
 
     unclean : (p : ℕ) → In p listed → is_weak st p ≡ true → is_unclean w p ≡ true
     unclean p i e = ap is_none (sym (step_trigger st ps w h codes values time is p)) ∙ (and_parts (is_none (st.sets.trigger p)) (is_some (st.sets.wakes p)) e).0
 
-    whole : run_all_weak st listed (run_all_clean st listed (opened st)) ≡ clocked_run st
-    whole = ap (λ qs. run_all_weak st qs (run_all_clean st qs (opened st))) of.filtered ∙ sym (clocked_filtered st of.test of.running)
+    clean : (p : ℕ) → In p listed → is_clean st p ≡ true → runs_clean w p ≡ true
+    clean p i e = ap is_some (sym (step_trigger st ps w h codes values time is p)) ∙ e
+
+    ordered : run_all_clean st (clean_in_rounds w listed) (opened st) ≡ run_all_clean st (in_rounds st.sets.round listed) (opened st)
+    ordered =
+        ap (λ r. run_all_clean st (in_rounds r (filter (runs_clean w) listed)) (opened st)) (sym (ap (λ (s : Sets). s.round) is.sets))
+        ∙ sym (clean_ordered st st.sets.round (runs_clean w) listed (opened st) clean)
+
+    whole : run_all_weak st listed cleaned ≡ clocked_run st
+    whole =
+        ap (λ z. run_all_weak st listed z) ordered
+        ∙ ap (λ qs. run_all_weak st qs (run_all_clean st (in_rounds st.sets.round qs) (opened st))) of.filtered ∙ sym (clocked_filtered st of.test of.running)

@@ -1,4 +1,5 @@
 pub mod Members
+pub mod Rounds
 pub mod Rooms
 pub mod Sets
 pub mod Folds

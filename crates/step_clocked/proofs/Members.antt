@@ -117,3 +117,18 @@ listed_inside c d same qs all p i =
     let low = in_pairs (length c.processes) qs all p i in
     let count = length-map c.processes process_view in
     subst (λ (e : Design). p < length e.processes) same (omega (arith, low, count))
+
+-- each number of a list that is below a bound by its place is so
+pub in_below : (n : ℕ) (xs : List ℕ) → All (λ (p : ℕ). p < n) xs → (p : ℕ) → In p xs → p < n
+in_below n [] all p i = absurd i
+in_below n (x ∷ xs) all p (inl same) = subst (λ z. z < n) same (All-head (λ (q : ℕ). q < n) x xs all)
+in_below n (x ∷ xs) all p (inr i) = in_below n xs (All-tail (λ (q : ℕ). q < n) x xs all) p i
+
+in_at : (xs : List ℕ) (i d : ℕ) → i < length xs → In (get_or xs i d) xs
+in_at [] i d l = absurd (omega (arith, l))
+in_at (x ∷ xs) zero d l = inl refl
+in_at (x ∷ xs) (suc i) d l = inr (in_at xs i d (omega (arith, l)))
+
+-- and the other way round
+pub all_below : (n : ℕ) (xs : List ℕ) → ((p : ℕ) → In p xs → p < n) → All (λ (p : ℕ). p < n) xs
+all_below n xs below i d l = below (get_or xs i d) (in_at xs i d l)

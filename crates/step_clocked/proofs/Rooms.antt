@@ -1,7 +1,8 @@
 -- Room for the runs of processes, whatever the order in which they run.
 use Rattle.std.proofs.Common.{◌≡◌, ℕ, ◌+◌, ◌≤◌, List, [], ◌∷◌, ◌++◌, arith}
 use Rattle.std.specs.Prelude.{sum_by}
-use Rattle.std.proofs.lemmas.List.Sums.{sum_by-append, sum_by-cons, sum_by_push}
+use Rattle.std.specs.List.{filter}
+use Rattle.std.proofs.lemmas.List.Sums.{sum_by-append, sum_by-cons}
 use Rattle.design_model.specs.Design.{Design, body_at}
 use Rattle.clocked_marks.specs.AtClocked.{AtClocked, CanRunAll}
 use Rattle.clocked_marks.specs.chosen_runs.clocked_block.clocked_runs.CanRun.{CanRun}
@@ -11,7 +12,10 @@ use Rattle.clocked_marks.specs.chosen_runs.clocked_block.clocked_runs.run_views.
 use Rattle.clocked_marks.specs.chosen_runs.clocked_block.clocked_runs.store_knowledge.open_tests.Weights.{queues}
 use Rattle.clocked_marks.specs.run_marks.declared.notes.MarkNotes.{MarkNotes}
 use Rattle.clocked_marks.specs.run_marks.cover_points.declared.listing.Points.{Points}
+use Rattle.clocked_marks.specs.chosen_runs.chosen_early.early_sets.WakeState.{WakeState}
 use Rattle.replay_sets.specs.replay_model.Step.{Closing, Working}
+use Rattle.step_clocked.specs.Runs.{clean_in_rounds, is_unclean}
+use Rattle.step_clocked.proofs.Rounds.{sum_in_turn}
 
 module _ (d : Design) where
   abbrev queued : ℕ → ℕ
@@ -24,28 +28,26 @@ module _ (d : Design) where
         let all = h.rooms.queue in
         record { meets = h.meets; queued = h.queued; rooms = record { log = h.rooms.log; queue = omega (arith, less, all) } }
 
-    -- the first one may run after all others
-    pub put_off : (p : ℕ) (rest later : List ℕ) → CanRun d v ws (p ∷ (rest ++ later)) x → CanRun d v ws (rest ++ (later ++ p ∷ [])) x
-    put_off p rest later h =
-        let one : sum_by queued (p ∷ (rest ++ later)) ≡ queued p + sum_by queued (rest ++ later) = sum_by-cons queued p (rest ++ later) in
-        let two = sum_by-append queued rest later in
-        let three = sum_by-append queued rest (later ++ p ∷ []) in
-        let four = sum_by_push queued later p in
-        fewer (p ∷ (rest ++ later)) (rest ++ (later ++ p ∷ [])) (omega (arith, one, two, three, four)) h
-
     -- the first one need not run
     pub left_out : (p : ℕ) (rest : List ℕ) → CanRun d v ws (p ∷ rest) x → CanRun d v ws rest x
     left_out p rest h = let one : sum_by queued (p ∷ rest) ≡ queued p + sum_by queued rest = sum_by-cons queued p rest in fewer (p ∷ rest) rest (omega (arith, one)) h
 
-  pub all_put_off : (p : ℕ) (rest later : List ℕ) (x : Store) → CanRunAll d (p ∷ (rest ++ later)) x → CanRunAll d (rest ++ (later ++ p ∷ [])) x
-  all_put_off p rest later x h = record { kept = h.kept; queue = h.queue; runs = put_off _ h.queue x p rest later h.runs }
-
   pub all_left_out : (p : ℕ) (rest : List ℕ) (x : Store) → CanRunAll d (p ∷ rest) x → CanRunAll d rest x
   all_left_out p rest x h = record { kept = h.kept; queue = h.queue; runs = left_out _ h.queue x p rest h.runs }
 
+  -- the clean ones may run first, in order of their rounds
+  pub in_turn : (w : WakeState) (v : StoreView) (ws : List KnownWrite) (x : Store) (listed : List ℕ) → CanRun d v ws listed x → CanRun d v ws (clean_in_rounds w listed ++ filter (is_unclean w) listed) x
+  in_turn w v ws x listed h =
+      let both = sum_by-append queued (clean_in_rounds w listed) (filter (is_unclean w) listed) in
+      let all = sum_in_turn queued w listed in
+      fewer v ws x listed (clean_in_rounds w listed ++ filter (is_unclean w) listed) (omega (arith, both, all)) h
+
+  pub all_in_turn : (w : WakeState) (listed : List ℕ) (x : Store) → CanRunAll d listed x → CanRunAll d (clean_in_rounds w listed ++ filter (is_unclean w) listed) x
+  all_in_turn w listed x h = record { kept = h.kept; queue = h.queue; runs = in_turn w _ h.queue x listed h.runs }
+
 module _ (st : Closing) (ps : Points) (w : Working) (x : Store) (m : MarkNotes) where
-  pub at_put_off : (p : ℕ) (rest later : List ℕ) → AtClocked st ps w (p ∷ (rest ++ later)) x m → AtClocked st ps w (rest ++ (later ++ p ∷ [])) x m
-  at_put_off p rest later at = record { runs = put_off st.design _ _ x p rest later at.runs; points = at.points; marks = at.marks; unwritten = at.unwritten }
+  pub at_in_turn : (s : WakeState) (listed : List ℕ) → AtClocked st ps w listed x m → AtClocked st ps w (clean_in_rounds s listed ++ filter (is_unclean s) listed) x m
+  at_in_turn s listed at = record { runs = in_turn st.design s _ _ x listed at.runs; points = at.points; marks = at.marks; unwritten = at.unwritten }
 
   pub at_left_out : (p : ℕ) (rest : List ℕ) → AtClocked st ps w (p ∷ rest) x m → AtClocked st ps w rest x m
   at_left_out p rest at = record { runs = left_out st.design _ _ x p rest at.runs; points = at.points; marks = at.marks; unwritten = at.unwritten }

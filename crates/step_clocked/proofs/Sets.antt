@@ -1,7 +1,7 @@
 -- What the sets of a step say of the Clocked processes.
 use Rattle.std.proofs.Common.{◌≡◌, ◌↔◌, inl, inr, ◌∙◌, ℕ, ◌+◌, ◌<◌, ◌≤◌, ◌||◌, ◌&&◌, ◌==◌, Bool, true, false, cond, List, [], ◌∷◌, length, Option, Some, None, refl, sym, ap, subst, arith}
 use Rattle.std.specs.Prelude.{is_some, nat_lt, sum_by}
-use Rattle.std.proofs.lemmas.Bool.{and_parts}
+use Rattle.std.proofs.lemmas.Bool.{and_parts, false≢true}
 use Rattle.std.proofs.lemmas.Bool.Decides.{nat_tests}
 use Rattle.std.proofs.lemmas.List.Sums.{sum_by-cons}
 use Rattle.design_model.specs.Design.{Design, process_at, signal_at}
@@ -17,7 +17,8 @@ use Rattle.clocked_marks.specs.chosen_runs.chosen_early.early_sets.declared.habi
 use Rattle.clocked_marks.specs.chosen_runs.clocked_block.entry_values.step_values.Loose.{has_code}
 use Rattle.replay_sets.proofs.wake_laws.EdgeLists.{all_gives, first_gives}
 use Rattle.replay_sets.specs.wake_laws.OfDesign.{AreTablesOf}
-use Rattle.step_clocked.specs.Runs.{AreFirstOf, is_woken}
+use Rattle.step_clocked.specs.Runs.{AreStepSets, is_woken, runs_clean}
+use Rattle.replay_sets.specs.SetsOf.{round_by, round_of}
 
 -- ---- what was found to be early does not matter
 
@@ -42,8 +43,8 @@ module _ (w v : WakeState) (same : IsSameButEarly w v) where
   pub early_list : (h : Habit) (p t : ℕ) (xs : List ℕ) → IsEarlyList v h p t xs → IsEarlyList w h p t xs
   early_list h p t xs is x = (λ i. (early_same h p t x).1 ((is x).0 i), λ e. (is x).1 ((early_same h p t x).0 e))
 
-  pub first_same : (d : Design) (codes : List (Option ℕ)) → AreFirstOf d codes w → AreFirstOf d codes v
-  first_same d codes h = subst (AreFirstOf d codes) (sym same) (record { tables = h.tables; told = h.told; derived = h.derived; noted = h.noted })
+  pub step_same : (d : Design) (codes : List (Option ℕ)) → AreStepSets d codes w → AreStepSets d codes v
+  step_same d codes h = subst (AreStepSets d codes) (sym same) (record { tables = h.tables; single = h.single; numbers = h.numbers; noted = h.noted })
 
 -- twice so
 pub same_both : (w v u : WakeState) → IsSameButEarly w v → IsSameButEarly v u → IsSameButEarly w u
@@ -72,21 +73,22 @@ module _ (d : Design) (lawful : IsLawfulDesign d) (w : WakeState) (tables : AreT
       let less = (and_parts (nat_lt r.0.1 (length d.signals)) _ both).0 in
       subst (λ z. z < length d.signals) r.3 (grind (arith, nat_tests, less))
 
-module _ (d : Design) (codes : List (Option ℕ)) (w : WakeState) (first : AreFirstOf d codes w) where
-  single_told : (s : ℕ) → is_single w s ≡ true → is_told w s ≡ true
-  single_told s h = go (is_told w s) refl (subst (λ xs. (is_told w s || is_in xs s) ≡ true) first.derived h)
-    where
-      go : (b : Bool) → is_told w s ≡ b → (b || false) ≡ true → b ≡ true
-      go true e h = refl
-      go false e h = h
-
+module _ (d : Design) (codes : List (Option ℕ)) (w : WakeState) (first : AreStepSets d codes w) where
   -- a trigger has a code
   pub trigger_coded : IsLawfulDesign d → (p s : ℕ) → trigger_of w p ≡ Some s → has_code codes s ≡ true
   trigger_coded lawful p s h =
       let r = trigger_parts w p s (waker_of w p) h in
       let low = waker_below d lawful w first.tables p s r.0 in
       let all = first.tables.things_are in
-      first.told s (omega (arith, low, all)) (single_told s r.1)
+      first.single s (omega (arith, low, all)) r.1
+
+  -- the number of its round is within those of the signals and memories
+  pub round_below : (p : ℕ) → runs_clean w p ≡ true → round_of w p ≤ w.tables.things
+  round_below p clean = go (trigger_of w p) refl clean
+    where
+      go : (o : Option ℕ) → trigger_of w p ≡ o → is_some o ≡ true → round_by w o ≤ w.tables.things
+      go None e none = absurd (false≢true none)
+      go (Some s) e some = first.numbers s (trigger_parts w p s (waker_of w p) e).1
 
   -- what is early is a signal or memory
   pub early_below : (h : Habit) (p t x : ℕ) → IsEarlyBy w h p t x → x < w.tables.things

@@ -1,15 +1,11 @@
--- An example of the order in which Clocked processes run.
-use Rattle.std.specs.Prelude.{◌≡◌, ◌==◌, ◌||◌, ◌∷◌, ℕ, Bool, []}
-use Rattle.step_clocked.specs.Runs.{clean_first}
+-- An example of the order in which clean processes run.
+use Rattle.std.specs.Prelude.{◌≡◌, ◌==◌, ◌∷◌, ℕ, if◌then◌else◌, []}
+use Rattle.replay_sets.specs.replay_model.Step.{in_rounds}
 
--- process 3 alone is clean, and 1 and 4 can wake
-abbrev pub is_three : ℕ → Bool
-is_three p = p == 3
+-- the trigger of process 1 became single in round 2 and that of 3 in round 1; those of the others are inputs
+abbrev pub round_example : ℕ → ℕ
+round_example p = if p == 1 then 2 else (if p == 3 then 1 else 0)
 
--- these are not clean
-abbrev pub is_one_or_four : ℕ → Bool
-is_one_or_four p = (p == 1) || (p == 4)
-
--- it runs before those that stand before it in the list, and 2 does not run
+-- those of an earlier round run first, whatever their numbers, and those of one round in their order
 abbrev pub IsOrderExample : Type 0
-IsOrderExample = clean_first is_three is_one_or_four (1 ∷ 2 ∷ 3 ∷ 4 ∷ []) ≡ 3 ∷ 1 ∷ 4 ∷ []
+IsOrderExample = in_rounds round_example (1 ∷ 2 ∷ 3 ∷ 4 ∷ []) ≡ 2 ∷ 4 ∷ 3 ∷ 1 ∷ []

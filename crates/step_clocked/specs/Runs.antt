@@ -1,5 +1,5 @@
 -- The runs of the Clocked processes of a step, by its sets.
-use Rattle.std.specs.Prelude.{◌≡◌, ◌<◌, ◌&&◌, ◌++◌, ℕ, Bool, true, List, [], filter, is_none, is_some, length, Option, Some}
+use Rattle.std.specs.Prelude.{◌≡◌, ◌<◌, ◌≤◌, ◌&&◌, ◌++◌, ℕ, Bool, true, List, [], filter, is_none, is_some, length, Option, Some}
 use Rattle.std.specs.List.{Contains}
 use Rattle.code_values.specs.Values.{Values}
 use Rattle.design_model.specs.Design.{Design, In, body_at}
@@ -7,7 +7,8 @@ use Rattle.design_model.specs.Mentions.{body_assigns}
 use Rattle.index_sets.specs.Rows.{row_at}
 use Rattle.clocked_marks.specs.chosen_runs.Chosen.{IsDumpedStep}
 use Rattle.clocked_marks.specs.chosen_runs.chosen_early.Shared.{IsEarlyList}
-use Rattle.clocked_marks.specs.chosen_runs.chosen_early.early_sets.WakeState.{WakeState, is_told, trigger_of, waker_of}
+use Rattle.clocked_marks.specs.chosen_runs.chosen_early.early_sets.WakeState.{WakeState, is_single, trigger_of, waker_of}
+use Rattle.clocked_marks.specs.chosen_runs.chosen_early.early_sets.Rounds.{round_at}
 use Rattle.clocked_marks.specs.chosen_runs.chosen_early.early_sets.declared.habit.Habit.{Habit}
 use Rattle.clocked_marks.specs.chosen_runs.clocked_block.OneRun.{IsRunBy}
 use Rattle.clocked_marks.specs.chosen_runs.clocked_block.clocked_runs.block_runs.body_calls.Own.{is_in}
@@ -15,8 +16,8 @@ use Rattle.clocked_marks.specs.chosen_runs.clocked_block.clocked_runs.clocked_la
 use Rattle.clocked_marks.specs.chosen_runs.clocked_block.entry_values.step_values.Loose.{has_code}
 use Rattle.clocked_marks.specs.run_marks.cover_points.Visits.{AreApart, AreOnce}
 use Rattle.clocked_marks.specs.run_marks.cover_points.declared.listing.Points.{Points}
-use Rattle.replay_sets.specs.SetsOf.{AreChosen, sets_of}
-use Rattle.replay_sets.specs.replay_model.Step.{Closing}
+use Rattle.replay_sets.specs.SetsOf.{AreChosen, round_of, sets_of}
+use Rattle.replay_sets.specs.replay_model.Step.{Closing, in_rounds}
 use Rattle.replay_sets.specs.wake_laws.OfDesign.{AreTablesOf}
 
 -- by these sets the process is clean
@@ -35,15 +36,19 @@ is_woken w p = is_some (waker_of w p)
 abbrev pub runs_weak : WakeState → ℕ → Bool
 runs_weak w p = is_unclean w p && is_woken w p
 
--- of these processes, in order, first those that pass one test, and then those that pass another
-abbrev pub clean_first : (ℕ → Bool) → (ℕ → Bool) → List ℕ → List ℕ
-clean_first clean weak ps = filter clean ps ++ filter weak ps
+-- the clean ones of these processes, in order of their rounds
+abbrev pub clean_in_rounds : WakeState → List ℕ → List ℕ
+clean_in_rounds w ps = in_rounds (round_of w) (filter (runs_clean w) ps)
 
--- the sets are those of a step of the design, and in it only inputs that have a code are single
-pub record AreFirstOf (d : Design) (codes : List (Option ℕ)) (w : WakeState) : Type 0 where
+-- of these processes first the clean ones, in order of their rounds, and then the others that can wake, in order
+abbrev pub clean_first : WakeState → List ℕ → List ℕ
+clean_first w ps = clean_in_rounds w ps ++ filter (runs_weak w) ps
+
+-- the sets are those of a step of the design, and in it only signals that have a code are single
+pub record AreStepSets (d : Design) (codes : List (Option ℕ)) (w : WakeState) : Type 0 where
   pub tables : AreTablesOf d w.tables
-  pub told : (x : ℕ) → x < w.tables.things → is_told w x ≡ true → has_code codes x ≡ true
-  pub derived : w.derived ≡ []  -- no other signal became single
+  pub single : (x : ℕ) → x < w.tables.things → is_single w x ≡ true → has_code codes x ≡ true
+  pub numbers : (x : ℕ) → is_single w x ≡ true → round_at w x ≤ w.tables.things
   pub noted : (x : ℕ) → Contains w.noted x → x < w.tables.things
 
 -- there is a row for each process, with the signals and memories that it assigns

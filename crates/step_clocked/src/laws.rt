@@ -8,7 +8,7 @@ pub fn listed_law()
     ensures { ListedLaw }
 {}
 
-/// A clean process runs before those that are not clean.
+/// Clean processes run in order of the rounds in which their triggers became single.
 pub fn order_example()
     ensures { IsOrderExample }
 {}

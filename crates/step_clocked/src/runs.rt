@@ -19,7 +19,7 @@ ghost use Rattle.clocked_marks.specs.run_marks.mark_laws.Marked.{AreVerdicts};
 ghost use Rattle.replay_sets.specs.SetsOf.{AreChosen};
 ghost use Rattle.replay_sets.specs.replay_model.Step.{Closing, Working, clocked_run, opened};
 ghost use Rattle.written_words.specs.Same.{SameUnwritten};
-ghost use Rattle.step_clocked.specs.Runs.{AreAssignedRows, AreClockedOf, AreFirstOf, HasWoken, IsClockedStep, clean_first, is_woken, runs_clean, runs_weak};
+ghost use Rattle.step_clocked.specs.Runs.{AreAssignedRows, AreClockedOf, AreStepSets, HasWoken, IsClockedStep, clean_first, is_woken};
 
 use crate::given::Given;
 use crate::turns::run_in_turn;
@@ -30,12 +30,14 @@ use step_counts::Steps;
 use value_store::Queue;
 use wake_list::WakeList;
 
-/// Runs the processes of a wake list that can wake, each once: first the clean ones in the order of the list, then the others.
-/// The list is empty then, and `ran` has the numbers of those that ran, in that order. What they queue is made. The marks take what
-/// the runs note. Each run is one step. `later` and `pieces` are scratch room. It takes no memory, and for each process the
-/// logarithm of their count for its place on the list, and time for its event list, for what is early for it and for its body.
+/// Runs the processes of a wake list that can wake, each once: first the clean ones in order of the rounds in which their triggers
+/// became single, those of one round in the order of the list, then the others. The list is empty then, and `ran` has the numbers of
+/// those that ran, in that order. What they queue is made. The marks take what the runs note. Each run is one step. `by_round`, `later`
+/// and `pieces` are scratch room. It takes no memory, and for each process twice the logarithm of the room of the lists for its
+/// places on them, and time for its event list, for what is early for it and for its body.
 pub fn run_clocked<L: Ledger>(
     list: &mut WakeList,
+    by_round: &mut WakeList,
     later: &mut Queue<u32>,
     ran: &mut Queue<usize>,
     sets: &mut Wakes,
@@ -47,12 +49,15 @@ pub fn run_clocked<L: Ledger>(
 )
     requires count { list.old.count ≡ length given.now.design.now.processes }
     requires below { All (λ q. q.0 < length given.now.design.now.processes) list.old.pairs }
+    requires places { length given.now.design.now.processes ≤ by_round.old.count }
+    requires ranks { length given.now.design.now.signals + length given.now.design.now.memories < by_round.old.count }
+    requires none_by_round { by_round.old.pairs ≡ [] }
     requires later { length given.now.design.now.processes ≤ later.old.room }
     requires ran { length given.now.design.now.processes ≤ ran.old.room }
     requires same { design_view store.old.design.now ≡ design_view given.now.design.now }
     requires lawful { IsLawfulDesign (design_view given.now.design.now) }
     requires known { (d : Design) × (k : Kept) × Knows d k store.old }
-    requires sets { AreFirstOf (design_view given.now.design.now) given.now.codes.now (state_of sets.old) }
+    requires sets { AreStepSets (design_view given.now.design.now) given.now.codes.now (state_of sets.old) }
     requires written { AreAssignedRows (design_view given.now.design.now) given.now.written.now }
     requires before { (old : Values Bit) × AreDumped (design_view given.now.design.now) given.now.codes.now given.now.values.now.closed old }
     requires after { (new : Values Bit) × AreDumped (design_view given.now.design.now) given.now.codes.now given.now.values.now.last new }
@@ -61,8 +66,9 @@ pub fn run_clocked<L: Ledger>(
     requires marks { AreMarksOf notes.old.points.now notes.old.marks }
     ensures count { list.new.count ≡ list.old.count }
     ensures empty { list.new.pairs ≡ [] }
+    ensures by_round { by_round.new ≡ by_round.old }
     ensures later { later.new ≡ record later.old { items = [] } }
-    ensures ran { ran.new.items ≡ clean_first (runs_clean (state_of sets.old)) (runs_weak (state_of sets.old)) (map (λ q. q.0) list.old.pairs) }
+    ensures ran { ran.new.items ≡ clean_first (state_of sets.old) (map (λ q. q.0) list.old.pairs) }
     ensures members { (p : ℕ) → In p ran.new.items ↔ (In p (map (λ q. q.0) list.old.pairs) × (is_woken (state_of sets.old) p ≡ true)) }
     ensures once { AreDistinct ran.new.items }
     ensures within { All (λ p. p < length given.now.design.now.processes) ran.new.items }
@@ -90,6 +96,17 @@ pub fn run_clocked<L: Ledger>(
     queue_law();
     list.fitting();
     begin_runs(store);
-    run_in_turn(list, later, ran, sets, store, given, pieces, notes, steps);
+    run_in_turn(
+        list,
+        by_round,
+        later,
+        ran,
+        sets,
+        store,
+        given,
+        pieces,
+        notes,
+        steps,
+    );
     make_updates(store);
 }

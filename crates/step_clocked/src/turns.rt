@@ -1,4 +1,4 @@
-//! The Clocked processes of a wake list, first the clean ones and then the others.
+//! The Clocked processes of a wake list, first the clean ones in order of their rounds, and then the others.
 
 ghost use Rattle.std.specs.Prelude.{◌≡◌, ◌<◌, ◌≤◌, ◌+◌, [], ℕ, List, length, map};
 ghost use Rattle.std.specs.List.{All};
@@ -13,9 +13,9 @@ ghost use Rattle.clocked_marks.specs.chosen_runs.chosen_early.early_sets.WakeSta
 ghost use Rattle.clocked_marks.specs.chosen_runs.clocked_block.entry_values.step_values.Dumped.{AreDumped};
 ghost use Rattle.clocked_marks.specs.run_marks.cover_marks.Marks.{AreMarksOf};
 ghost use Rattle.replay_sets.specs.replay_model.Step.{Closing, Working, clocked_run, opened};
-ghost use Rattle.step_clocked.specs.Runs.{AreAssignedRows, AreChosenOf, AreClockedOf, AreFirstOf, IsClockedStep, clean_first, runs_clean, runs_weak};
+ghost use Rattle.step_clocked.specs.Runs.{AreAssignedRows, AreChosenOf, AreClockedOf, AreStepSets, IsClockedStep, clean_first};
 
-use crate::clean::run_clean_ones;
+use crate::clean::{put_by_round, run_clean_ones};
 use crate::given::Given;
 use crate::weak::run_weak_ones;
 use clocked_marks::{MarkNotes, Piece, Store, Wakes};
@@ -24,11 +24,12 @@ use step_counts::Steps;
 use value_store::Queue;
 use wake_list::WakeList;
 
-/// Runs the processes of the list that can wake, each once: first the clean ones in the order of the list, then the others. What
-/// they queue is not made. The list is empty then, and `ran` has the numbers of those that ran, in that order. `later` is scratch
-/// room for those that are not clean.
+/// Runs the processes of the list that can wake, each once: first the clean ones in order of their rounds, those of one round in the
+/// order of the list, then the others. What they queue is not made. The list is empty then, and `ran` has the numbers of those that
+/// ran, in that order. `by_round` and `later` are scratch room for the clean ones and for the others.
 pub(crate) fn run_in_turn<L: Ledger>(
     list: &mut WakeList,
+    by_round: &mut WakeList,
     later: &mut Queue<u32>,
     ran: &mut Queue<usize>,
     sets: &mut Wakes,
@@ -39,12 +40,16 @@ pub(crate) fn run_in_turn<L: Ledger>(
     steps: &mut Steps<L>,
 )
     requires count { list.old.count ≡ length given.now.design.now.processes }
+    requires below { All (λ q. q.0 < length given.now.design.now.processes) list.old.pairs }
+    requires places { length given.now.design.now.processes ≤ by_round.old.count }
+    requires ranks { length given.now.design.now.signals + length given.now.design.now.memories < by_round.old.count }
+    requires none_by_round { by_round.old.pairs ≡ [] }
     requires later { length given.now.design.now.processes ≤ later.old.room }
     requires ran { length given.now.design.now.processes ≤ ran.old.room }
     requires same { design_view store.old.design.now ≡ design_view given.now.design.now }
     requires lawful { IsLawfulDesign (design_view given.now.design.now) }
     requires ready { (d : Design) × CanRunAll d (map (λ q. q.0) list.old.pairs) store.old }
-    requires sets { AreFirstOf (design_view given.now.design.now) given.now.codes.now (state_of sets.old) }
+    requires sets { AreStepSets (design_view given.now.design.now) given.now.codes.now (state_of sets.old) }
     requires written { AreAssignedRows (design_view given.now.design.now) given.now.written.now }
     requires before { (old : Values Bit) × AreDumped (design_view given.now.design.now) given.now.codes.now given.now.values.now.closed old }
     requires after { (new : Values Bit) × AreDumped (design_view given.now.design.now) given.now.codes.now given.now.values.now.last new }
@@ -53,8 +58,9 @@ pub(crate) fn run_in_turn<L: Ledger>(
     requires marks { AreMarksOf notes.old.points.now notes.old.marks }
     ensures count { list.new.count ≡ list.old.count }
     ensures empty { list.new.pairs ≡ [] }
+    ensures by_round { by_round.new ≡ by_round.old }
     ensures later { later.new ≡ record later.old { items = [] } }
-    ensures ran { ran.new.items ≡ clean_first (runs_clean (state_of sets.old)) (runs_weak (state_of sets.old)) (map (λ q. q.0) list.old.pairs) }
+    ensures ran { ran.new.items ≡ clean_first (state_of sets.old) (map (λ q. q.0) list.old.pairs) }
     ensures within { All (λ p. p < length given.now.design.now.processes) ran.new.items }
     ensures places { ran.new.room ≡ ran.old.room }
     ensures rest { IsSameButEarly (state_of sets.old) (state_of sets.new) }
@@ -73,7 +79,8 @@ pub(crate) fn run_in_turn<L: Ledger>(
 {
     later.clear();
     ran.clear();
-    run_clean_ones(list, later, ran, sets, store, given, pieces, notes, steps);
+    put_by_round(list, by_round, later, sets);
+    run_clean_ones(by_round, ran, sets, store, given, pieces, notes, steps);
     run_weak_ones(
         later.as_slice(),
         ran,

@@ -23,10 +23,10 @@ use Rattle.step_parts.proofs.Parts.{starts}
 
 module _ (due : Due) (codes ranks clocked_ranks : List (Option ℕ)) (before wakes : WakeState) (values : Values) (store : Store) (early : ℕ → List ℕ) (listed : List ℕ) (v : StepVectors) (is : IsDueStep due codes ranks clocked_ranks before values store) (found : HasFound due wakes early listed v) where
   woken : AreWoken due.tables wakes
-  woken = woken_are due.design (habit_of due.habit) due.dump (suc due.time) due.tables wakes early found.tables.tables is.tabled found.sets.sets found.moves
+  woken = woken_are due.design (habit_of due.habit) due.dump (suc due.time) due.tables wakes early found.tables.tables is.tabled found.sets found.moves
 
   runs : (p : ℕ) → is_running (step_of due wakes early) p ≡ is_some (waker_of wakes p)
-  runs p = running due.design (habit_of due.habit) due.dump due.run due.tables (sets_of wakes early) due.time due.replay found.sets.sets p
+  runs p = running due.design (habit_of due.habit) due.dump due.run due.tables (sets_of wakes early) due.time due.replay found.sets p
 
   to : (p : ℕ) → In p listed → In p due.tables.clocked × (is_running (step_of due wakes early) p ≡ true)
   to p i =
@@ -48,7 +48,7 @@ touched_are due codes ranks clocked_ranks before wakes values store early listed
 pub begun : BegunLaw
 begun due codes ranks clocked_ranks before wakes values first left store early clocked ran listed found v marks is has have still agree list vectors =
     let st = step_of due wakes early in
-    let sets = has.sets.sets in
+    let sets = has.sets in
     let moving = clocked_move due.design (habit_of due.habit) due.dump due.run due.tables (sets_of wakes early) due.time due.replay sets in
     let settling = settling_move due.design (habit_of due.habit) due.dump due.run due.tables (sets_of wakes early) due.time due.replay is.tabled sets in
     record {

@@ -19,7 +19,7 @@ use Rattle.step_changes.specs.early_sets.WakeState.{WakeState}
 use Rattle.step_changes.specs.early_sets.declared.habit.Habit.{Habit}
 use Rattle.mark_laws.specs.Marked.{AreVerdicts}
 use Rattle.mark_laws.specs.replay_model.Laws.{closing_at}
-use Rattle.mark_laws.specs.replay_model.Sets.{AreFirstSets}
+use Rattle.mark_laws.specs.replay_model.Sets.{AreSets}
 use Rattle.mark_laws.specs.replay_model.Step.{Closing, Replay, clocked_run, contradicts, is_touched, settle_start}
 use Rattle.mark_laws.specs.replay_model.Tables.{AreTables, Tables}
 use Rattle.step_changes.specs.replay_sets.SetsOf.{AreChosen, sets_of}
@@ -66,7 +66,7 @@ step_of due wakes early = closing_at due.design due.dump due.run due.tables (set
 
 -- these sets are those of the step, those of its Clocked are listed in order that can wake, and of what may move is set aside what was known
 pub record HasFound (due : Due) (wakes : WakeState) (early : ℕ → List ℕ) (waking : List ℕ) (vectors : StepVectors) : Type 0 where
-  pub sets : AreFirstSets due.design (habit_of due.habit) due.dump (suc due.time) (sets_of wakes early)
+  pub sets : AreSets due.design (habit_of due.habit) due.dump (suc due.time) (sets_of wakes early)
   pub chosen : AreChosen wakes due.habit early
   pub tables : IsOfDesign due.design due.flags wakes
   pub moves : HasMoves wakes
@@ -86,7 +86,7 @@ pub record HaveClockedRun (due : Due) (wakes : WakeState) (early : ℕ → List 
 -- these sets are those of the step, the other processes to run are listed in order, and the store, the vectors and the marks are those
 -- with which the first of them runs
 pub record HasBegun (due : Due) (wakes : WakeState) (early : ℕ → List ℕ) (listed : List ℕ) (vectors : StepVectors) (store : Store) (marks : Marks) : Type 0 where
-  pub sets : AreFirstSets due.design (habit_of due.habit) due.dump (suc due.time) (sets_of wakes early)
+  pub sets : AreSets due.design (habit_of due.habit) due.dump (suc due.time) (sets_of wakes early)
   pub still : IsDumpStill (step_of due wakes early)
   pub list : listed ≡ filter (is_touched (step_of due wakes early)) (due.tables.order ++ due.tables.last)
   pub parts : AtStep (step_of due wakes early) due.points (settle_start (step_of due wakes early) (clocked_run (step_of due wakes early))) store vectors wakes due.acted marks
@@ -95,7 +95,7 @@ pub record HasBegun (due : Due) (wakes : WakeState) (early : ℕ → List ℕ) (
 
 -- these sets are those of the step, and some bit of the signal contradicts it
 pub record IsContradicted (due : Due) (wakes : WakeState) (early : ℕ → List ℕ) (found : Difference) : Type 0 where
-  pub sets : AreFirstSets due.design (habit_of due.habit) due.dump (suc due.time) (sets_of wakes early)
+  pub sets : AreSets due.design (habit_of due.habit) due.dump (suc due.time) (sets_of wakes early)
   pub cell : Cell
   pub signal : cell.thing ≡ found.signal
   pub differs : contradicts (step_of due wakes early) cell ≡ true

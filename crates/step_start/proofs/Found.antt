@@ -30,7 +30,7 @@ found due codes ranks clocked_ranks before w values store is early listed v chos
     let knows = is.rest.knows in
     let bits = opened due.design due.replay.kept knows in
     record {
-      sets = record { first_round = is.changes.round; sets = sets };
+      sets = sets;
       chosen = chosen;
       tables = of;
       moves = moves;

@@ -56,9 +56,9 @@ module _ (due : Due) (early : ℕ → List ℕ) (codes ranks clocked_ranks : Lis
     lawful = is.changes.lawful;
     tabled = is.tabled;
     runs = is.runs;
-    clocked = clocked_targets due.design (habit_of due.habit) due.dump due.run due.tables (sets_of w early) due.time due.replay found.sets.sets;
-    settling = targets_move due.design (habit_of due.habit) due.dump due.run due.tables (sets_of w early) due.time due.replay is.tabled found.sets.sets;
-    moved = moves_are due.design (habit_of due.habit) due.dump due.run due.tables (sets_of w early) due.time due.replay is.changes.lawful is.tabled found.sets.sets;
+    clocked = clocked_targets due.design (habit_of due.habit) due.dump due.run due.tables (sets_of w early) due.time due.replay found.sets;
+    settling = targets_move due.design (habit_of due.habit) due.dump due.run due.tables (sets_of w early) due.time due.replay is.tabled found.sets;
+    moved = moves_are due.design (habit_of due.habit) due.dump due.run due.tables (sets_of w early) due.time due.replay is.changes.lawful is.tabled found.sets;
   }
 
   pub after : IsAfterClocked step left w codes values.last
@@ -74,7 +74,7 @@ module _ (due : Due) (early : ℕ → List ℕ) (codes ranks clocked_ranks : Lis
   input_moves : (c : Cell) → (signal_at due.design c.thing).input ≡ true → nat_lt c.place (signal_at due.design c.thing).width ≡ true → (due.dump.values due.time c ≡ due.dump.values (suc due.time) c → ⊥) → step.sets.moves c.thing ≡ true
   input_moves c input inside apart =
       let may : MayMoveAt due.design due.dump (suc due.time) c.thing = of_input c (and_from (signal_at due.design c.thing).input _ input inside, λ told same. apart (ap (λ t. due.dump.values t c) (sym back) ∙ same)) in
-      (found.sets.sets.moves c.thing).1 may
+      (found.sets.moves c.thing).1 may
 
   pub inputs : InputsStay step
   inputs c input dumped still = is.known c dumped ∙ go (same_bit (due.dump.values due.time c) (due.dump.values (suc due.time) c)) refl

@@ -1,9 +1,9 @@
-ghost use Rattle.std.specs.Prelude.{◌≡◌, ◌<◌, [], ℕ, Bool, List, filter, length, map};
+ghost use Rattle.std.specs.Prelude.{◌≡◌, ◌<◌, ◌≤◌, [], ℕ, Bool, IsSome, List, filter, length, map};
 ghost use Rattle.std.specs.List.{Contains};
 ghost use Rattle.design_model.specs.Design.{Design};
 ghost use Rattle.design_model.specs.View.{design_view};
 ghost use Rattle.body_replay.specs.Store.{Kept};
-ghost use Rattle.early_sets.specs.Rounds.{HasMoves};
+ghost use Rattle.early_sets.specs.Rounds.{HasMoves, round_at, writer_at};
 ghost use Rattle.early_sets.specs.WakeState.{state_of};
 ghost use Rattle.run_order.specs.Ranked.{AreRanksOf};
 ghost use Rattle.step_parts.specs.replay_sets.SetsOf.{AreChosen};
@@ -11,7 +11,6 @@ ghost use Rattle.step_parts.specs.step_changes.Changes.{AreChangedSignals};
 ghost use Rattle.step_parts.specs.Due.{Due, HasFound, IsDueStep};
 ghost use Rattle.step_parts.specs.step_wakes.Step.{IsOfDesign};
 ghost use Rattle.step_parts.specs.store_knowledge.Knows.{Knows};
-ghost use Rattle.step_parts.specs.wake_laws.Laws.{HasNoWriters};
 ghost use Rattle.wake_list.specs.Members.{has};
 ghost use Rattle.step_start.specs.Fits.{FitsStep};
 
@@ -34,7 +33,8 @@ pub fn find_step(tables: &StepTables, values: &CodeValues, room: &mut StepRoom, 
     ensures changed { AreChangedSignals tables.now.codes.items values.now room.new.changed.items }
     ensures list { room.new.list ≡ room.old.list }
     ensures moves { HasMoves (state_of room.new.sets) }
-    ensures derived { HasNoWriters (state_of room.old.sets) → (state_of room.new.sets).derived ≡ [] }
+    ensures derived { (x : ℕ) → Contains (state_of room.new.sets).derived x → IsSome (writer_at (state_of room.new.sets) x) }
+    ensures rounds { (x : ℕ) → Contains (state_of room.new.sets).derived x → round_at (state_of room.new.sets) x ≤ (state_of room.new.sets).tables.things }
     ensures noted { (x : ℕ) → Contains (state_of room.new.sets).noted x → x < (state_of room.new.sets).tables.things }
     ensures listed { (order : List ℕ) → AreRanksOf order (length (design_view store.now.design.now).processes) tables.now.clocked
         → map (λ q. q.0) room.new.clocked.pairs ≡ filter (λ p. has p (state_of room.new.sets).woken) order }

@@ -1,5 +1,6 @@
 -- The changes of a step, noted one after the other.
-use Rattle.std.proofs.Common.{◌≡◌, ◌≢◌, ◌⊎◌, ◌↔◌, inl, inr, ⊎_elim, ◌∙◌, ℕ, ◌-◌, ◌<◌, ◌+◌, ◌&&◌, ◌||◌, Bool, true, false, cond, not, List, [], ◌∷◌, ◌++◌, Some, None, length, get_or, set, take, refl, sym, ap, ap₂, subst, arith, lt-ltb}
+use Rattle.std.proofs.Common.{◌≡◌, ◌≢◌, ◌⊎◌, ◌↔◌, inl, inr, ⊎_elim, ◌∙◌, ℕ, ◌-◌, ◌<◌, ◌≤◌, ◌+◌, ◌&&◌, ◌||◌, Bool, true, false, cond, not, List, [], ◌∷◌, ◌++◌, Option, Some, None, length, get_or, set, take, refl, sym, ap, ap₂, subst, arith, lt-ltb}
+use Rattle.std.specs.Prelude.{is_some}
 use Rattle.std.specs.List.{All, Contains}
 use Rattle.std.proofs.lemmas.Bool.{and_from, and_parts, both_ways, cases_Bool, cases_eq, cases_lt, false≢true, or_left, or_right, false_from_ne_true}
 use Rattle.std.proofs.lemmas.List.{get_or-set_other, get_or-set_same, get_or_past, length-set, take_more}
@@ -19,14 +20,13 @@ use Rattle.design_model.proofs.TargetCells.{target_cells_law}
 use Rattle.early_sets.specs.Adds.{Adds}
 use Rattle.early_sets.specs.Edges.{edges_between, no_edges}
 use Rattle.early_sets.specs.Has.{is_in}
-use Rattle.early_sets.specs.Rounds.{AreRounds, becomes_single, is_written_by, writer_at}
+use Rattle.early_sets.specs.Rounds.{AreRounds, becomes_single, is_written_by, round_at, writer_at}
 use Rattle.early_sets.specs.Settled.{HasSettled}
 use Rattle.early_sets.specs.WakeState.{WakeState, is_single, is_told, own_edges}
 use Rattle.early_sets.proofs.Membership.{is_in_from, is_in_gives}
 use Rattle.replay_sets.proofs.SetsLaw.{sets_law}
 use Rattle.replay_sets.specs.wake_laws.Laws.{AreNotes, HasNoWriters, IsChangedInput, IsRoundOf}
 use Rattle.replay_sets.specs.wake_laws.OfDesign.{AreTablesOf, AreWritersOf}
-use Rattle.replay_sets.proofs.wake_laws.MovesLaw.{moves_by, reached_below}
 use Rattle.replay_sets.proofs.wake_laws.RoundsLaw.{has_moves, rounds_law}
 use Rattle.step_wakes.specs.Step.{AreChanges, IsOfDesign, StepSets, flag_at, is_given, is_missing}
 use Rattle.step_wakes.specs.declared.step.SignalChange.{SignalChange}
@@ -303,14 +303,7 @@ step_sets d bound before noted after changes start end sized of so rest settled 
     let tables = subst (AreTablesOf d) (sym (ap (λ w. w.tables) rest)) (still_of d bound before noted changes of so).tables in
     let notes = found_notes d dump t noted after rest (notes_are d bound before noted changes of so lawful dump t sized round' same back) in
     let rounds = rounds_law d lawful dump t after settled.earlier tables notes round settled.rounds settled.is_last in
-    let sets = sets_law d lawful dump t after h early tables notes rounds.single (record { moves_are = (has_moves after settled.earlier settled.rounds).moves }) chosen in
-    record {
-      sets = sets;
-      rounds = λ p s is.
-          let clean = sets.trigger p s is in
-          let m = moves_by d lawful dump t after tables notes rounds.single s clean.can_wake.1 in
-          rounds.first s (reached_below d lawful dump t after tables notes s m) (rounds.single.complete s m clean.is_single);
-    }
+    sets_law d lawful dump t after h early tables notes rounds (record { moves_are = (has_moves after settled.earlier settled.rounds).moves }) chosen
 
 -- what is noted is a signal or memory
 pub noted_below : (before after : WakeState) (changes : List SignalChange) (n : ℕ) → ((x : ℕ) → Contains before.untold x → x < n) → All (λ (c : SignalChange). c.signal < n) changes → IsNoted before changes after
@@ -318,12 +311,34 @@ pub noted_below : (before after : WakeState) (changes : List SignalChange) (n : 
 noted_below before after changes n untold all so x i =
     ⊎_elim (λ u. untold x u) (λ e. let at = e.2 in subst (λ z. z < n) e.1 (subst (λ (c : SignalChange). c.signal < n) at.2 (all at.0 e.0 at.1))) (so.only x i)
 
--- where nothing may become single there is no round but the first
-pub none_derived : (w : WakeState) (earlier : List WakeState) → HasNoWriters w → AreRounds (w ∷ earlier) → w.derived ≡ []
-none_derived w [] none rounds = rounds.0
-none_derived w (a ∷ earlier) none (next, rounds) = absurd (never (ap (λ z. writer_at z next.some.0) (sym next.rest) ∙ none next.some.0) next.some.1)
+-- what became single did so in a round with a number of at most the rounds
+number_within : (w : WakeState) (earlier : List WakeState) → AreRounds (w ∷ earlier) → (x : ℕ) → Contains w.derived x → get_or w.rounds x 0 ≤ length earlier
+number_within w [] rounds x i = let m = subst (λ xs. Contains xs x) rounds.0 i in absurd (omega (arith, m.1))
+number_within w (a ∷ earlier) (next, rounds) x i = ⊎_elim now before (cases_Bool (becomes_single a x))
   where
-    never : writer_at a next.some.0 ≡ None → becomes_single a next.some.0 ≡ true → ⊥
-    never is h =
-        let rest = and_parts (not (is_single a next.some.0)) _ (and_parts (is_in a.moves next.some.0) _ h).1 in
-        false≢true (sym (ap (is_written_by a) is) ∙ rest.1)
+    now : becomes_single a x ≡ true → get_or w.rounds x 0 ≤ length (a ∷ earlier)
+    now h = let is = next.now x h in omega (arith, is)
+
+    before : becomes_single a x ≡ false → get_or w.rounds x 0 ≤ length (a ∷ earlier)
+    before h =
+        let is = next.before x h in
+        let rest = number_within a earlier rounds x (⊎_elim (λ k. k) (λ k. absurd (both_ways _ h k)) ((next.derived x).0 i)) in
+        omega (arith, is, rest)
+
+pub round_within : (w : WakeState) (earlier : List WakeState) → AreRounds (w ∷ earlier) → length earlier ≤ w.tables.things → (x : ℕ) → Contains w.derived x → round_at w x ≤ w.tables.things
+round_within w earlier rounds few x i =
+    let most = number_within w earlier rounds x i in
+    ⊎_elim (λ h. subst (λ n. n ≤ w.tables.things) (sym (ap (λ b. cond b 0 (get_or w.rounds x 0)) h)) (omega arith)) (λ h. subst (λ n. n ≤ w.tables.things) (sym (ap (λ b. cond b 0 (get_or w.rounds x 0)) h)) (omega (arith, most, few))) (cases_Bool (is_told w x))
+
+-- what became single in a round has a writer
+pub derived_written : (w : WakeState) (earlier : List WakeState) → AreRounds (w ∷ earlier) → (x : ℕ) → Contains w.derived x → is_some (writer_at w x) ≡ true
+derived_written w [] rounds x i = let m = subst (λ xs. Contains xs x) rounds.0 i in absurd (omega (arith, m.1))
+derived_written w (a ∷ earlier) (next, rounds) x i =
+    ap (λ z. is_some (writer_at z x)) next.rest ∙ ⊎_elim (λ before. derived_written a earlier rounds x before) (λ now. written (writer_at a x) (becoming now)) ((next.derived x).0 i)
+  where
+    becoming : becomes_single a x ≡ true → is_written_by a (writer_at a x) ≡ true
+    becoming h = (and_parts (not (is_single a x)) _ (and_parts (is_in a.moves x) _ h).1).1
+
+    written : (o : Option ℕ) → is_written_by a o ≡ true → is_some o ≡ true
+    written None h = absurd (false≢true h)
+    written (Some p) h = refl

@@ -5,11 +5,11 @@ use Rattle.design_model.specs.Design.{Design, cell, signal_at}
 use Rattle.design_model.specs.Lawful.{IsLawfulDesign}
 use Rattle.design_model.specs.Shows.{BoundDump}
 use Rattle.early_sets.specs.declared.habit.Habit.{Habit}
-use Rattle.early_sets.specs.Rounds.{round_at, writer_at}
-use Rattle.early_sets.specs.WakeState.{WakeState, is_told, trigger_of}
+use Rattle.early_sets.specs.Rounds.{writer_at}
+use Rattle.early_sets.specs.WakeState.{WakeState, is_told}
 use Rattle.replay_sets.specs.replay_model.Sets.{AreSets}
 use Rattle.replay_sets.specs.SetsOf.{AreChosen, sets_of}
-use Rattle.replay_sets.specs.wake_laws.Laws.{IsChangedInput, IsFirstSingle, IsRoundOf, habit_of}
+use Rattle.replay_sets.specs.wake_laws.Laws.{IsChangedInput, IsRoundOf, habit_of}
 use Rattle.replay_sets.specs.wake_laws.OfDesign.{AreTablesOf}
 use Rattle.step_wakes.specs.declared.step.SignalChange.{SignalChange}
 
@@ -39,17 +39,12 @@ pub record AreChanges (d : Design) (dump : BoundDump) (t : ℕ) (w : WakeState) 
   pub inputs : (x : ℕ) → dump.bound x ≡ true → IsChangedInput d dump t x → (c : SignalChange) × (c.signal ≡ x) × Contains changes c
   pub candidates : (x p : ℕ) → writer_at w x ≡ Some p → dump.values (t - 1) (cell x 0) ≢ dump.values t (cell x 0) → (c : SignalChange) × (c.signal ≡ x) × Contains changes c
 
--- the answers are the sets of the step, and the number of each clean block is that of the round in which its trigger became single
-pub record AreAnswers (d : Design) (h : Habit) (dump : BoundDump) (t : ℕ) (w : WakeState) (early : ℕ → List ℕ) : Type 0 where
-  pub sets : AreSets d (habit_of h) dump t (sets_of w early)
-  pub rounds : (p s : ℕ) → trigger_of w p ≡ Some s → IsFirstSingle d dump t s (round_at w s)
-
--- once the changes of a step are told, and what is early was found for each clean block, the answers are those of the step
+-- once the changes of a step are told, and what is early was found for each clean block, the answers are the sets of the step
 abbrev pub StepSets : Design → List Bool → List SignalChange → WakeState → Type 0
 StepSets d bound changes w =
     (dump : BoundDump) (t : ℕ) (h : Habit) (early : ℕ → List ℕ)
     → IsLawfulDesign d → IsRoundOf d dump t w → ((x : ℕ) → (signal_at d x).input ≡ true → dump.bound x ≡ flag_at bound x)
-    → AreChanges d dump t w changes → AreChosen w h early → AreAnswers d h dump t w early
+    → AreChanges d dump t w changes → AreChosen w h early → AreSets d (habit_of h) dump t (sets_of w early)
 
 -- the turns of the loops of a step before its rounds: one for each input that the dump does not give, and one for each change
 abbrev pub note_turns : List SignalChange → WakeState → ℕ

@@ -1,13 +1,13 @@
 //! The sets of a step from the signals that change in it.
 
-ghost use Rattle.std.specs.Prelude.{◌≡◌, ◌<◌, ◌+◌, [], ℕ, Bool, List, false, slice_set, true};
+ghost use Rattle.std.specs.Prelude.{◌≡◌, ◌<◌, ◌≤◌, ◌+◌, ℕ, Bool, IsSome, List, false, slice_set, true};
 ghost use Rattle.std.specs.List.{All, Contains};
 ghost use Rattle.design_model.specs.Design.{Design};
 ghost use Rattle.early_sets.specs.Adds.{Adds};
 ghost use Rattle.early_sets.specs.Edges.{edges_between};
+ghost use Rattle.early_sets.specs.Rounds.{round_at, writer_at};
 ghost use Rattle.early_sets.specs.Settled.{HasSettled};
 ghost use Rattle.early_sets.specs.WakeState.{is_told, state_of};
-ghost use Rattle.replay_sets.specs.wake_laws.Laws.{HasNoWriters};
 ghost use Rattle.step_wakes.specs.Step.{IsOfDesign, StepSets, note_turns};
 
 use early_sets::{Turns, Wakes};
@@ -33,7 +33,8 @@ pub fn find<T: Turns>(wakes: &mut Wakes, changes: &[SignalChange], turns: &mut T
     ensures tables { (state_of wakes.new).tables ≡ (state_of wakes.old).tables }
     ensures writers { (state_of wakes.new).writers ≡ (state_of wakes.old).writers }
     ensures noted { (x : ℕ) → Contains (state_of wakes.new).noted x → x < (state_of wakes.new).tables.things }
-    ensures derived { HasNoWriters (state_of wakes.old) → (state_of wakes.new).derived ≡ [] }
+    ensures derived { (x : ℕ) → Contains (state_of wakes.new).derived x → IsSome (writer_at (state_of wakes.new) x) }
+    ensures rounds { (x : ℕ) → Contains (state_of wakes.new).derived x → round_at (state_of wakes.new) x ≤ (state_of wakes.new).tables.things }
     ensures sets { (d : Design) (bound : List Bool) → IsOfDesign d bound (state_of wakes.old) → StepSets d bound changes.now (state_of wakes.new) }
     ensures turns { HasSettled (state_of wakes.new) (T.counted turns.old + note_turns changes.now (state_of wakes.new)) (T.counted turns.new) }
 {

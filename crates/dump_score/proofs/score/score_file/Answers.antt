@@ -1,5 +1,7 @@
 use Rattle.std.proofs.lemmas.Result.{err_from_is_err_and}
 use Rattle.dump_replay.specs.replay_core.wake_laws.Laws.{habit_of}
+use Rattle.design_model.proofs.FiniteRounds.{last_rounds_law}
+use Rattle.design_model.specs.RoundLaws.{read_by}
 use Rattle.dump_replay.specs.shown_dumps.Shown.{bound_dump}
 use Rattle.whole_files.proofs.EffectLemmas.{OnlyReads-trans}
 use Rattle.dump_score.proofs.FileLemmas.{header_refuses, nothing_read}
@@ -129,7 +131,8 @@ score_table-requires-clause-marks g c =
     let is = opened_bound name before now piece opened c.in_ok-replay.replay habit design points instance o c.in_ok-replay.ensures.followed in
     let on = c.in_ok-score_body.ensures.ok name before habit design points opened.vars instance is in
     let scored = c.in_ok-score_end.ensures.ok habit design points opened.vars instance on.0 on.2 in
-    (c.finish-marks.ensures habit design points opened.vars instance scored.b.items (scored_rises c.score_end.new.replay habit design points opened.vars instance on.0 scored) scored.followed).of
+    let some = last_rounds_law (design_view design) c.requires.replayable.lawful (bound_dump design (said c.score_end.new.replay habit design points opened.vars instance on.0 scored) instance) in
+    (c.finish-marks.ensures habit design points opened.vars instance scored.b.items (scored_rises c.score_end.new.replay habit design points opened.vars instance on.0 scored) scored.followed some.0 some.1).of
 
 pub score_table-requires-clause-windows : goal.score_table-requires-clause-windows
 score_table-requires-clause-windows g c =
@@ -166,8 +169,9 @@ score_table-requires-clause-scored g c =
     let is = opened_bound name before now piece opened c.in_ok-replay.replay habit design points instance o c.in_ok-replay.ensures.followed in
     let on = c.in_ok-score_body.ensures.ok name before habit design points opened.vars instance is in
     let scored = c.in_ok-score_end.ensures.ok habit design points opened.vars instance on.0 on.2 in
-    let final = c.finish-marks.ensures habit design points opened.vars instance scored.b.items (scored_rises c.score_end.new.replay habit design points opened.vars instance on.0 scored) scored.followed in
-    (habit, bound_dump design (said c.score_end.new.replay habit design points opened.vars instance on.0 scored) instance, scored_times c.score_end.new.replay habit design points opened.vars instance on.0 scored, final.scored)
+    let some = last_rounds_law (design_view design) c.requires.replayable.lawful (bound_dump design (said c.score_end.new.replay habit design points opened.vars instance on.0 scored) instance) in
+    let final = c.finish-marks.ensures habit design points opened.vars instance scored.b.items (scored_rises c.score_end.new.replay habit design points opened.vars instance on.0 scored) scored.followed some.0 some.1 in
+    (habit, read_by (bound_dump design (said c.score_end.new.replay habit design points opened.vars instance on.0 scored) instance) some.0, scored_times c.score_end.new.replay habit design points opened.vars instance on.0 scored, final.scored)
 
 pub returns-clause-scored : goal.returns-clause-scored
 returns-clause-scored g c = λ machines all.
@@ -189,7 +193,7 @@ returns-clause-scored g c = λ machines all.
     let final = c.finish-marks.ensures habit design points opened.vars instance scored.b.items (scored_rises replay habit design points opened.vars instance on.0 scored) scored.followed in
     let times = scored_times replay habit design points opened.vars instance on.0 scored in
     let windows = c.in_ok-windows.ensures habit design points opened.vars instance scored.b.items (scored_rises replay habit design points opened.vars instance on.0 scored) scored.followed in
-    scored_file replay habit design points opened.vars instance on.0 scored name before machines c.args.sources c.finish-marks.result _ on.1 final (c.in_ok-score_table.ensures habit _ machines all times final.scored windows)
+    scored_file replay habit design points opened.vars instance on.0 scored name before machines c.args.sources c.finish-marks.result _ on.1 c.requires.replayable.lawful final (λ rounds by_last. c.in_ok-score_table.ensures habit (read_by (bound_dump design (said replay habit design points opened.vars instance on.0 scored) instance) rounds) machines all times (final rounds by_last).scored windows)
 
 pub returns-in_err-score_end-clause-effects : goal.returns-in_err-score_end-clause-effects
 returns-in_err-score_end-clause-effects g c = OnlyReads-trans _ _ _ c.in_ok-open.ensures.effects (OnlyReads-trans _ _ _ c.in_ok-opened.ensures.effects c.in_ok-score_body.ensures.effects)

@@ -3,11 +3,13 @@ use Rattle.std.proofs.lemmas.List.{length-map}
 use Rattle.design_model.specs.View.{design_view, process_view}
 use Rattle.dump_check.specs.Checks.{Checks}
 use Rattle.early_sets.specs.WakeState.{state_of}
-use Rattle.first_step.specs.step_wakes.Step.{IsOfDesign}
+use Rattle.first_step.specs.step_wakes.Step.{IsOfDesign, flag_at}
+use Rattle.wake_laws.specs.OfDesign.{AreWritersOf}
 use Rattle.body_store.specs.Made.{nothing}
 use Rattle.step_words.specs.Words.{FitsRanges, HasWords}
 use Rattle.replay_core.specs.Fits.{FitsRoom}
 use Rattle.replay_core.specs.declared.room.ReplayRoom.{ReplayRoom}
+use Rattle.replay_core.proofs.Codes.{bound_is}
 use Rattle.replay_core.proofs.room.make_room.Goals as goal
 
 pub new-requires-4-clause-widths : goal.new-requires-4-clause-widths
@@ -20,6 +22,7 @@ returns-clause-fits c =
     let x = c.args.tables.now in
     let step = c.in_ok-step.ensures in
     let scratch = c.in_ok-scratch.ensures in
+    let rounds = c.in_ok-by_round.ensures in
     let size : length (map process_view D.processes) ≡ length D.processes = length-map D.processes process_view in
     let put_places = c.len.ensures in
     let places = c.len-2.ensures in
@@ -31,7 +34,10 @@ returns-clause-fits c =
       changed = step.changed;
       changes = omega (arith, all);
       sets = subst (λ bound. IsOfDesign d bound (state_of c.in_ok-step.step.sets)) c.requires.bound step.sets;
-      writers = step.writers;
+      writers = subst (λ f. AreWritersOf d f (state_of c.in_ok-step.step.sets).tables.things (state_of c.in_ok-step.step.sets).writers) (bound_is x.step.codes.items) (subst (λ bound. AreWritersOf d (flag_at bound) (state_of c.in_ok-step.step.sets).tables.things (state_of c.in_ok-step.step.sets).writers) c.requires.bound step.writers);
+      places = let places = rounds.places in omega (arith, size, places);
+      ranks = rounds.ranks;
+      none_by_round = rounds.none;
       list = step.list ∙ sym size;
       clocked = step.clocked ∙ sym size;
       overwritten = step.overwritten;

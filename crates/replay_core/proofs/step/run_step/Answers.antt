@@ -29,7 +29,7 @@ use Rattle.replay_core.specs.declared.room.ReplayRoom.{ReplayRoom}
 use Rattle.replay_core.specs.declared.state.ReplayState.{ReplayState}
 use Rattle.replay_core.proofs.Given.{cells_given}
 use Rattle.replay_core.proofs.Parts.{fits_same, fits_step, given_cells, run_fits, words_same}
-use Rattle.replay_core.proofs.Sets.{first_of}
+use Rattle.replay_core.proofs.Sets.{sets_of_step}
 use Rattle.replay_core.proofs.Stepping.{checked_fits, clocked_inside, clocked_ran, closes_run, counts_clocked, counts_run, for_step, found_parts, list_settles, listed_of, refutes_begun, refutes_run, settled_changed, settled_parts, steps_both}
 use Rattle.replay_core.proofs.step.run_step.Goals as goal
 
@@ -58,7 +58,7 @@ run_woken_clocked-requires g c =
       replayable = c.requires.replayable;
       fits = fits;
       below = clocked_inside d points x r s n fits e.listed (length D.processes) (length-map D.processes process_view);
-      sets = first_of d x.step.codes.items (state_of n.sets) fits.room.sets (e.derived c.requires.fits.room.writers) e.noted;
+      sets = sets_of_step d x.step.codes.items (state_of n.sets) fits.room.sets fits.room.writers e.derived e.rounds e.noted;
       closed = c.requires.closed;
       given = c.requires.given;
     }

@@ -1,10 +1,9 @@
 use Rattle.std.proofs.Common.{◌<◌, ◌∙◌, None, get_or, length, sym, ap, subst, arith}
-use Rattle.std.specs.Prelude.{slice_index_or}
 use Rattle.std.specs.List.{Contains}
 use Rattle.std.proofs.lemmas.List.{get_or_default, take_all}
 use Rattle.four_state.specs.declared.bit.Bit.TheVariants.{Zero}
 use Rattle.early_sets.specs.WakeState.{state_of}
-use Rattle.step_wakes.proofs.Noting.{IsNoted, found_of, none_derived, noted_below, noted_more, noted_none, step_sets, still_of}
+use Rattle.step_wakes.proofs.Noting.{IsNoted, derived_written, found_of, noted_below, noted_more, noted_none, round_within, step_sets, still_of}
 use Rattle.step_wakes.specs.declared.step.SignalChange.{SignalChange}
 use Rattle.step_wakes.proofs.step.find.Goals as goal
 
@@ -52,10 +51,10 @@ returns-clause-noted g c = λ x i.
     subst (λ t. x < t.things) (sym (ap (λ w. w.tables) c.settle.ensures.rest ∙ c.loop-change.invariant.0.tables)) low
 
 pub returns-clause-derived : goal.returns-clause-derived
-returns-clause-derived g c = λ none.
-    let after = state_of c.settle.new.self in
-    let same = ap (λ w. w.writers) c.settle.ensures.rest ∙ c.loop-change.invariant.0.writers in
-    none_derived after c.settle.ensures.settled.earlier (λ x. ap (λ ws. slice_index_or ws x None) same ∙ none x) c.settle.ensures.settled.rounds
+returns-clause-derived g c = derived_written (state_of c.settle.new.self) c.settle.ensures.settled.earlier c.settle.ensures.settled.rounds
+
+pub returns-clause-rounds : goal.returns-clause-rounds
+returns-clause-rounds g c = round_within (state_of c.settle.new.self) c.settle.ensures.settled.earlier c.settle.ensures.settled.rounds c.settle.ensures.settled.few
 
 pub returns-clause-sets : goal.returns-clause-sets
 returns-clause-sets g c d bound of =
@@ -72,5 +71,6 @@ returns-clause-turns g c =
       earlier = settled.earlier;
       rounds = settled.rounds;
       is_last = settled.is_last;
+      few = settled.few;
       turns = omega (arith, c.loop-change.invariant.1, c.loop-change.invariant.2, settled.turns, untold, same);
     }

@@ -1,8 +1,10 @@
-use Rattle.std.proofs.Common.{refl, ◌∙◌}
+use Rattle.std.proofs.Common.{refl, subst, ◌∙◌}
+use Rattle.design_model.specs.MayMove.{AreLastRounds}
+use Rattle.design_model.specs.RoundLaws.{read_by}
 use Rattle.dump_replay.proofs.Following.{changed}
 use Rattle.dump_replay.proofs.replay.DumpReplay.change.Goals as goal
 
 pub returns-clause-followed : goal.returns-clause-followed
 returns-clause-followed c =
     changed c.args.self.now record { replay = c.change.new.self; wanted = c.args.self.now.wanted; first = c.args.self.now.first; last = c.args.self.now.last } c.args.code c.args.value.now c.change.ensures.ready c.change.ensures.made (λ n. c.change.ensures.phase ∙ n) c.change.ensures.values refl refl refl
-    c.change.ensures.followed
+    (λ dump t follows rounds by_last. c.change.ensures.followed (read_by dump rounds) t (follows rounds (subst (λ m. AreLastRounds m.design (read_by dump rounds)) c.change.ensures.made by_last)))

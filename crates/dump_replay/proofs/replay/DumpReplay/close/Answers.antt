@@ -7,7 +7,7 @@ close_step-requires-clause-started g c = has_begun c.args.self.now.replay c.has_
 pub returns-then-has_started-clause-followed : goal.returns-then-has_started-clause-followed
 returns-then-has_started-clause-followed g c =
     let begun = has_begun c.args.self.now.replay c.has_started.result c.has_started.ensures c.if-has_started.true in
-    ok_map c.close_step.result _ _ (λ closed. later_closed c.args.self.now c.close_step.new.self c.args.time begun closed) c.close_step.ensures.followed
+    ok_map c.close_step.result _ _ (λ closed. later_closed c.args.self.now c.close_step.new.self c.args.time begun c.close_step.ensures.made closed) c.close_step.ensures.followed
 
 pub returns-then-has_started-clause-fault : goal.returns-then-has_started-clause-fault
 returns-then-has_started-clause-fault g c =

@@ -2,5 +2,5 @@ use Rattle.dump_replay.proofs.Finishing.{final_marks}
 use Rattle.dump_replay.proofs.replay.DumpReplay.finish.Goals as goal
 
 pub returns : goal.returns
-returns c habit design points vars instance entries rises f =
-    final_marks c.args.self c.finish.result c.finish.ensures.points c.finish.ensures.followed c.finish.ensures.new habit design points vars instance entries rises f
+returns c habit design points vars instance entries rises f rounds by_last =
+    final_marks c.args.self c.finish.result c.finish.ensures.points c.finish.ensures.followed c.finish.ensures.new habit design points vars instance entries rises f rounds by_last
