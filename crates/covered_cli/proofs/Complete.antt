@@ -335,7 +335,7 @@ module _ (words : List (List ℕ)) (before middle after : Outside) (first : Coun
 
 module _ (words : List (List ℕ)) (before after : Outside) (done : IsDone words before after) where
   -- what was done is done by the one command that the words are
-  done_by : (score : ScoreValues) → IsScore words score → IsDoneIn score before after
+  pub done_by : (score : ScoreValues) → IsScore words score → IsDoneIn score before after
   done_by score is = by_values done.0 done.1 done.2
     where
       by_values : (values : CommandValues) → AreWordsOf values words → IsDoneBy values before after → IsDoneIn score before after

@@ -10,5 +10,6 @@ pub mod Machines
 pub mod DrawnMachines
 pub mod Scoring
 pub mod Leaving
+pub mod Untouched
 pub mod Refusing
 pub mod WordLists

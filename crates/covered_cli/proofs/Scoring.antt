@@ -5,7 +5,7 @@ use Rattle.command_line.specs.Command.{IsCommand, command_values}
 use Rattle.command_line.specs.CommandWords.{ScoreValues}
 use Rattle.command_line.specs.declared.command.Command.{Command}
 use Rattle.cov_host.specs.Outside.{Outside, Files, KeepsFiles, SameFiles, Told, HasFile}
-use Rattle.covered_cli.specs.Covered.{KeepsOthers}
+use Rattle.covered_cli.specs.Headline.{KeepsOthers}
 use Rattle.covered_cli.specs.Fault.{IsDesignFault, IsDrawingFault, IsEarly, IsPointsFault, IsReadingFault, IsScoringFault, IsWritingFault, StandsIn}
 use Rattle.covered_cli.specs.Scoring.{HasDesign, HasDump, HasSomeDesign, HasSomeScore, IsContradictedText, IsDone, IsDoneIn, IsDoneWork, IsDumpRefusal, IsScoredText, names_of}
 use Rattle.covered_cli.specs.declared.fault.Fault.{Fault}
@@ -138,11 +138,10 @@ text_is_scored score sources names text design db before middle has are_names ke
     is_dump = scored.is_dump;
     scores = record {
       accepted = record { bound = scored.score.bound; forced = scored.score.forced };
-      table = scored.score.table;
-      head = subst (λ ns. HasHead (design_view design) ns db) are_names scored.score.head;
-      listed = scored.score.listed;
+      listed = record { table = scored.score.table; points = scored.score.listed };
       sound = scored.score.sound;
       reasoned = scored.score.reasoned;
+      head = subst (λ ns. HasHead (design_view design) ns db) are_names scored.score.head;
       windows = scored.score.windows;
     };
     is_text = is_text;

@@ -1,5 +1,5 @@
 -- What a call of the program leaves outside, and why it ends with a status above 0.
-use Rattle.std.specs.Prelude.{◌≡◌, ◌≢◌, ◌⊎◌, ℕ, List, [], ◌∷◌, Contains, Option, Some, None, MatchOption}
+use Rattle.std.specs.Prelude.{◌≡◌, ◌⊎◌, ℕ, List, [], ◌∷◌, Contains, Option, Some, None, MatchOption}
 use Rattle.command_line.specs.Command.{AreWordsOf, CommandValues, score, merge, report, lcov}
 use Rattle.command_line.specs.CommandWords.{IsScore, ScoreValues}
 use Rattle.command_line.specs.DatabaseWords.{IsMerge, IsReport, MergeValues, ReportValues}
@@ -22,10 +22,6 @@ use Rattle.covered_cli.specs.declared.fault.Fault.{Fault}
 use Rattle.covered_cli.specs.declared.status.Status.{Status}
 use Rattle.covered_cli.specs.declared.status.Status.TheVariants.{Usage, Source, Dump, Database}
 use Rattle.covered_cli.specs.declared.status.Status.TheVariants as status
-
--- every file but this one is as before
-abbrev pub KeepsOthers : List ℕ → Files → Files → Type 0
-KeepsOthers name old new = (other : List ℕ) → other ≢ name → new other ≡ old other
 
 -- the words are a command
 abbrev pub IsSomeCommand : List (List ℕ) → Type 0

@@ -4,6 +4,7 @@ pub mod Complete
 pub mod Covered
 pub mod Effects
 pub mod Databases
+pub mod Headline
 pub mod Scoring
 pub mod Refusing
 pub mod Fault

@@ -1,11 +1,10 @@
 -- What a `score` command reads and writes, and why it cannot.
 use Rattle.std.specs.Prelude.{◌≡◌, ℕ, false, List, map}
 use Rattle.std.specs.List.{list_any}
-use Rattle.command_line.specs.CommandWords.{ScoreValues}
+use Rattle.command_line.specs.CommandWords.{IsScore, ScoreValues}
 use Rattle.command_line.specs.Command.{AreWordsOf, CommandValues, score as of_score, merge as of_merge, report as of_report, lcov as of_lcov, command_values}
 use Rattle.command_line.specs.declared.command.Command.{Command}
 use Rattle.cov_host.specs.Outside.{Outside, HasFile, Told}
-use Rattle.coverage_db.specs.Table.{IsTable}
 use Rattle.coverage_db.specs.Text.{text_of}
 use Rattle.coverage_db.specs.declared.db.Db.{Db}
 use Rattle.database_commands.specs.Merging.{IsMergedIn, IsMergedText}
@@ -20,25 +19,20 @@ use Rattle.design_points.specs.cover_points.declared.fault.PointFault.{PointFaul
 use Rattle.dump_score.specs.dump_replay.Faults.{IsContradicted}
 use Rattle.dump_score.specs.Faults.{IsDumpFault, SaysSome}
 use Rattle.dump_score.specs.Reading.{IsFile}
-use Rattle.dump_score.specs.Scoring.{AreForced}
 use Rattle.event_machine.specs.Habit.{Habit}
 use Rattle.dump_score.specs.score_tables.Head.{HasHead}
 use Rattle.dump_score.specs.score_tables.Windows.{windows_of}
 use Rattle.shown_dumps.specs.Bound.{HasNoBaseline, IsBound}
-use Rattle.shown_dumps.specs.Rounds.{ByLastRounds}
-use Rattle.shown_dumps.specs.Shown.{bound_dump}
 use Rattle.signal_binding.specs.Binding.{IsNotDumped}
 use Rattle.signal_binding.specs.Names.{stands_in}
 use Rattle.source_design.specs.Accepted.{StandFor}
 use Rattle.source_design.specs.Reading.{HasSources}
-use Rattle.written_designs.specs.table_laws.Rows.{ListsPoints}
 use Rattle.vcd_reader.specs.Dump.{Dump, IsDump, times_of}
 use Rattle.vcd_reader.specs.declared.fault.DumpFault.TheVariants.{At}
-use Rattle.dump_score.specs.verdict_laws.Reasoned.{IsReasoned}
-use Rattle.dump_score.specs.verdict_laws.Sound.{IsSound}
 use Rattle.verilog_lexer.specs.Sources.{SourceText}
 use Rattle.state_machines.specs.Machines.{StateMachines}
 use Rattle.covered_cli.specs.Drawing.{IsNoMachineOf}
+use Rattle.covered_cli.specs.Headline.{IsAccepted, IsListed, IsReasonedScore, IsSoundScore, IsUntouched, Scored, scored_of}
 use Rattle.covered_cli.specs.ScoreMachines.{AreMachinesOf, habit_in}
 use Rattle.covered_cli.specs.ScoreSources.{sources_in}
 use Rattle.covered_cli.specs.declared.contradiction.Contradiction.{Contradiction}
@@ -83,28 +77,21 @@ names_of sources = map (λ source. source.name) sources
 abbrev pub HasNoScore : Design → List ℕ → List ℕ → Type 0
 HasNoScore design instance text = (dump : Dump) → IsDump text dump → IsBound design dump instance → ⊥
 
--- the dump has the instance, a variable of each input, and a first value of each signal that has a variable, and no forced value differs from its own
-pub record IsAccepted (habit : Habit) (design : Design) (dump : Dump) (instance : List ℕ) : Type 0 where
-  pub bound : IsBound design dump instance
-  pub forced : ByLastRounds (design_view design) (bound_dump design dump instance) (AreForced habit (design_view design))
-
--- The table lists each coverage point of the design with these state machines once. In every run of the design by this habit that shows the dump, each
--- point marked hit is hit and each point marked missed is never hit. Each undetermined point names a signal and a time at which that signal is in doubt for its block.
-pub record IsScoreOf (habit : Habit) (design : Design) (machines : StateMachines) (dump : Dump) (names : List (List ℕ)) (instance : List ℕ) (db : Db) : Type 0 where
-  pub accepted : IsAccepted habit design dump instance
-  pub table : IsTable db
-  pub head : HasHead (design_view design) names db
-  pub listed : ListsPoints (design_view design) machines db
-  pub sound : ByLastRounds (design_view design) (bound_dump design dump instance) (λ said. IsSound (design_view design) habit said machines db)
-  pub reasoned : ByLastRounds (design_view design) (bound_dump design dump instance) (λ said. IsReasoned (design_view design) habit said machines db)
-  pub windows : db.windows ≡ windows_of (times_of dump.steps)
+-- the headline of the table, whose head names the design and these sources, and whose windows are those of the dump
+pub record IsScoreOf (x : Scored) (names : List (List ℕ)) : Type 0 where
+  pub accepted : IsAccepted x
+  pub listed : IsListed x
+  pub sound : IsSoundScore x
+  pub reasoned : IsReasonedScore x
+  pub head : HasHead (design_view x.design) names x.table
+  pub windows : x.table.windows ≡ windows_of (times_of x.dump.steps)
 
 -- the text is that of a table of the design under the dump of this text
 pub record IsScoreText (habit : Habit) (design : Design) (machines : StateMachines) (names : List (List ℕ)) (dump_text instance text : List ℕ) : Type 0 where
   pub dump : Dump
   pub db : Db
   pub is_dump : IsDump dump_text dump
-  pub scores : IsScoreOf habit design machines dump names instance db
+  pub scores : IsScoreOf (scored_of habit design machines dump instance db) names
   pub is_text : text ≡ text_of db
 
 -- why the text is refused as the dump of a design: its first fault, which is one of its header or is where the design is
@@ -180,3 +167,16 @@ IsDoneWork command before after = IsDoneBy (command_values command) before after
 -- what the words ask for was done
 abbrev pub IsDone : List (List ℕ) → Outside → Outside → Type 0
 IsDone words before after = (values : CommandValues) × AreWordsOf values words × IsDoneBy values before after
+
+-- what a score that was done is about
+abbrev pub scored_in : (score : ScoreValues) (before after : Outside) → IsDoneIn score before after → Scored
+scored_in score before after done =
+    scored_of (habit_in score) done.scored.design done.scored.has_design.machines done.scored.scores.dump score.instance done.scored.scores.db
+
+-- where the words are a score, it was done, and the claim holds of what it is about
+abbrev pub OfScore : (Scored → Type 0) → List (List ℕ) → Outside → Outside → Type 0
+OfScore claim words before after = (score : ScoreValues) → IsScore words score → (done : IsDoneIn score before after) × claim (scored_in score before after done)
+
+-- where the words are a score, it left all else as it was
+abbrev pub LeavesElse : List (List ℕ) → Outside → Outside → Type 0
+LeavesElse words before after = (score : ScoreValues) → IsScore words score → IsUntouched score.output before after

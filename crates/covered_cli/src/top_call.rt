@@ -7,7 +7,8 @@ ghost use Rattle.covered_cli.specs.Complete.{EndsWith, HasBadDump, HasBadSource,
 ghost use Rattle.covered_cli.specs.Covered.{HasContradiction, HasDatabaseCause, HasEarlyStatus, HasFilesCause, HasGoodDatabases, IsNoCommand, IsSomeCommand, KeepsUnnamed, Leaves, PrintsReport, WarnsFault};
 ghost use Rattle.covered_cli.specs.Effects.{WarnsLine};
 ghost use Rattle.covered_cli.specs.Fault.{HasForms, IsEarly, Stands, StandsInWork, line_of, output_of, status_of};
-ghost use Rattle.covered_cli.specs.Scoring.{IsDone, IsDoneWork, IsTextOf};
+ghost use Rattle.covered_cli.specs.Headline.{IsAccepted, IsListed, IsReasonedScore, IsSoundScore};
+ghost use Rattle.covered_cli.specs.Scoring.{IsDone, IsDoneWork, IsTextOf, LeavesElse, OfScore};
 
 use crate::Status;
 use crate::fault::Fault;
@@ -31,11 +32,20 @@ pub fn covered<H: Host>(alloc: Global, words: &Words, host: &mut H) -> Status
     ensures kept { HasEarlyStatus result → KeepsFiles (H.outside host.old) (H.outside host.new) }
     ensures unprinted { HasEarlyStatus result → (H.outside host.new).printed ≡ (H.outside host.old).printed }
 
-    // With status 0 the output holds what the command asks for: of a score the table of the sources and the dump, with
-    // each coverage point once and its verdict, which holds in every run of the design, by the habit of the words, that shows the dump; of a merge the
+    // With status 0 the output holds what the command asks for: of a score the table of the sources and the dump; of a merge the
     // merge of the tables of the files; of a report its text, which was printed where no file is named; of `lcov` the
     // tracefile of the table of the file.
     ensures done { result ≡ Status.Done → IsDone words.now (H.outside host.old) (H.outside host.new) }
+
+    // The headline: of a score with status 0, the dump fits the design of the sources; the table lists each coverage point of the
+    // design once; in every run of the design, by the habit of the words, that shows the dump, each point marked hit is hit and each
+    // point marked missed is never hit; each undetermined point names a signal and a time at which that signal is in doubt for its block;
+    // and all else is as it was.
+    ensures accepted { result ≡ Status.Done → OfScore IsAccepted words.now (H.outside host.old) (H.outside host.new) }
+    ensures listed { result ≡ Status.Done → OfScore IsListed words.now (H.outside host.old) (H.outside host.new) }
+    ensures sound { result ≡ Status.Done → OfScore IsSoundScore words.now (H.outside host.old) (H.outside host.new) }
+    ensures reasoned { result ≡ Status.Done → OfScore IsReasonedScore words.now (H.outside host.old) (H.outside host.new) }
+    ensures untouched { result ≡ Status.Done → LeavesElse words.now (H.outside host.old) (H.outside host.new) }
 
     // Where the files are known and no call of the host fails, their texts decide the status, want of memory aside: a dump
     // that some run shows is scored, and one that has a fault is refused, for it or for what no run shows before it. A

@@ -20,5 +20,4 @@ pub use parts::{Found, ProcessRows, Scratch};
 pub use process::run;
 pub use settled_runs::new_store_law;
 pub use settled_targets::{SavedValues, StepValues, is_coded, put_dump};
-pub use step_parts::wakes_of;
 pub use wake_bits::{Wake, wake_rows};

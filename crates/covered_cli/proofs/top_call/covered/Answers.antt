@@ -1,10 +1,11 @@
 use Rattle.std.proofs.Common.{◌∙◌, sym}
 use Rattle.whole_files.proofs.EffectLemmas.{KeepsFiles-trans, Told-trans}
 use Rattle.covered_cli.proofs.Causes.{command_or_fault, contradiction_cause, usage_exactly}
-use Rattle.covered_cli.proofs.Complete.{bad_dump_ends, bad_dump_not_done, bad_source_ends, bad_source_not_done, good_ends, points_end, points_not_done, unbound_ends, unbound_not_done}
+use Rattle.covered_cli.proofs.Complete.{bad_dump_ends, bad_dump_not_done, bad_source_ends, bad_source_not_done, done_by, good_ends, points_end, points_not_done, unbound_ends, unbound_not_done}
 use Rattle.covered_cli.proofs.Databases.{database_cause, early_status, files_cause, good_databases_end, stands_later}
 use Rattle.covered_cli.proofs.Leaving.{all_later, left_later}
 use Rattle.covered_cli.proofs.Lines.{WarnsLine-since}
+use Rattle.covered_cli.proofs.Untouched.{all_else, no_report}
 use Rattle.covered_cli.proofs.top_call.covered.Goals as goal
 
 pub returns-in-Ok-clause-usage : goal.returns-in-Ok-clause-usage
@@ -90,3 +91,22 @@ returns-in-Err-clause-left g c above =
     let middle = g.H.Host.outside c.run.new.host in
     let after = g.H.Host.outside c.tell.new.host in
     left_later c.args.words.now before middle after c.in-Err.ensures.left c.tell.ensures.files c.tell.ensures.printed
+
+pub returns-in-Ok-clause-accepted : goal.returns-in-Ok-clause-accepted
+returns-in-Ok-clause-accepted g c is score is_score = let done = done_by _ _ _ c.in-Ok.ensures.done score is_score in (done, done.scored.scores.scores.accepted)
+
+pub returns-in-Ok-clause-listed : goal.returns-in-Ok-clause-listed
+returns-in-Ok-clause-listed g c is score is_score = let done = done_by _ _ _ c.in-Ok.ensures.done score is_score in (done, done.scored.scores.scores.listed)
+
+pub returns-in-Ok-clause-sound : goal.returns-in-Ok-clause-sound
+returns-in-Ok-clause-sound g c is score is_score = let done = done_by _ _ _ c.in-Ok.ensures.done score is_score in (done, done.scored.scores.scores.sound)
+
+pub returns-in-Ok-clause-reasoned : goal.returns-in-Ok-clause-reasoned
+returns-in-Ok-clause-reasoned g c is score is_score = let done = done_by _ _ _ c.in-Ok.ensures.done score is_score in (done, done.scored.scores.scores.reasoned)
+
+pub returns-in-Ok-clause-untouched : goal.returns-in-Ok-clause-untouched
+returns-in-Ok-clause-untouched g c is score is_score =
+    let before = g.H.Host.outside c.args.host.now in
+    let after = g.H.Host.outside c.run.new.host in
+    let done = done_by c.args.words.now before after c.in-Ok.ensures.done score is_score in
+    all_else score.output done.text before after done.written (c.run.ensures.printed (no_report c.args.words.now score is_score)) c.run.ensures.warned
