@@ -11,9 +11,9 @@
 
 PREFIX ?= /usr/local
 PROGRAM = crates/covered/out/covered
-STAGE = machines-late
-# parts of later stages that are already there: dumps, bindings, merge and report, drawn arcs
-AHEAD = merge-report pieces arcs
+STAGE = divided-clocks
+# parts of later stages that are already there: dumps and bindings
+AHEAD = pieces
 PADS = examples/pads
 ALU = examples/alu
 UART = examples/uart

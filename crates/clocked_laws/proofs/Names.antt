@@ -1,10 +1,9 @@
 -- What a body assigns is of the design.
-use Rattle.std.proofs.Common.{◌≡◌, ◌+◌, ℕ, true, false, length, subst, arith, ⊎_elim}
+use Rattle.std.proofs.Common.{◌≡◌, ℕ, true, length, subst, arith, ⊎_elim}
 use Rattle.std.specs.Prelude.{◌==◌, Bool, nat_le, nat_lt}
 use Rattle.std.proofs.lemmas.Bool.{and_parts, eqb-true, false≢true, or_cases}
 use Rattle.std.proofs.lemmas.Bool.Decides.{nat_tests}
 use Rattle.design_model.specs.Design.{Design, body_at, is_memory, is_number}
-use Rattle.design_model.specs.Lawful.{IsLawfulDesign}
 use Rattle.design_model.specs.Mentions.{any_set, any_set_in, any_set_of, some_target_names, target_names}
 use Rattle.design_model.specs.Shape.{are_bodies, are_targets, is_arms, is_body, is_target}
 use Rattle.design_model.specs.Tree.{Arms, Stmt, Stmts, Target, Targets, a_stmt, a_target, all_of, arm, bits_of, block, branch, empty, no_arms, no_stmts, no_targets, select, set, several, turns, word_of}

@@ -1,5 +1,5 @@
 -- A test of processes leaves their order of rounds as it is.
-use Rattle.std.proofs.Common.{◌≡◌, ◌⊎◌, inl, inr, ⊎_elim, ℕ, ◌<◌, Bool, true, false, List, [], ◌∷◌, refl, sym, ap, subst, ◌∙◌, arith}
+use Rattle.std.proofs.Common.{◌≡◌, inl, inr, ⊎_elim, ℕ, ◌<◌, Bool, true, false, List, [], ◌∷◌, refl, sym, ap, subst, ◌∙◌, arith}
 use Rattle.std.proofs.lemmas.Bool.{both_ways, cases_Bool, cases_lt, le-leb, leb-true}
 use Rattle.std.specs.Prelude.{if◌then◌else◌, nat_le}
 use Rattle.std.specs.List.{filter}
@@ -37,13 +37,10 @@ module _ (round : ℕ → ℕ) (f : ℕ → Bool) where
   -- one that passes
   put_passed : (p : ℕ) (xs : List ℕ) → AreSorted round xs → f p ≡ true → filter f (put_in_round round p xs) ≡ put_in_round round p (filter f xs)
   put_passed p [] sorted e = passed p [] e
-  put_passed p (x ∷ xs) sorted e = ⊎_elim after before (cases_Bool (nat_le (round x) (round p)))
+  put_passed p (x ∷ xs) sorted e = ⊎_elim (after (put_passed p xs sorted.1 e)) before (cases_Bool (nat_le (round x) (round p)))
     where
-      rest : filter f (put_in_round round p xs) ≡ put_in_round round p (filter f xs)
-      rest = put_passed p xs sorted.1 e
-
-      after : nat_le (round x) (round p) ≡ true → filter f (put_in_round round p (x ∷ xs)) ≡ put_in_round round p (filter f (x ∷ xs))
-      after le =
+      after : filter f (put_in_round round p xs) ≡ put_in_round round p (filter f xs) → nat_le (round x) (round p) ≡ true → filter f (put_in_round round p (x ∷ xs)) ≡ put_in_round round p (filter f (x ∷ xs))
+      after rest le =
           ap (filter f) (put_after p x xs le)
           ∙ ⊎_elim
           (λ passes. passed x (put_in_round round p xs) passes ∙ ap (λ ys. x ∷ ys) rest ∙ sym (put_after p x (filter f xs) le) ∙ ap (put_in_round round p) (sym (passed x xs passes)))
@@ -59,13 +56,10 @@ module _ (round : ℕ → ℕ) (f : ℕ → Bool) where
   -- one that is left out
   put_left_out : (p : ℕ) (xs : List ℕ) → f p ≡ false → filter f (put_in_round round p xs) ≡ filter f xs
   put_left_out p [] e = left_out p [] e
-  put_left_out p (x ∷ xs) e = ⊎_elim after before (cases_Bool (nat_le (round x) (round p)))
+  put_left_out p (x ∷ xs) e = ⊎_elim (after (put_left_out p xs e)) before (cases_Bool (nat_le (round x) (round p)))
     where
-      rest : filter f (put_in_round round p xs) ≡ filter f xs
-      rest = put_left_out p xs e
-
-      after : nat_le (round x) (round p) ≡ true → filter f (put_in_round round p (x ∷ xs)) ≡ filter f (x ∷ xs)
-      after le =
+      after : filter f (put_in_round round p xs) ≡ filter f xs → nat_le (round x) (round p) ≡ true → filter f (put_in_round round p (x ∷ xs)) ≡ filter f (x ∷ xs)
+      after rest le =
           ap (filter f) (put_after p x xs le)
           ∙ ⊎_elim (λ passes. passed x (put_in_round round p xs) passes ∙ ap (λ ys. x ∷ ys) rest ∙ sym (passed x xs passes)) (λ fails. left_out x (put_in_round round p xs) fails ∙ rest ∙ sym (left_out x xs fails)) (cases_Bool (f x))
 

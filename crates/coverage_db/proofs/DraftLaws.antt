@@ -293,8 +293,8 @@ version_part n d line new has e =
     elim (or_else_ok (version_of line) (λ v. Ok (record d { stage = stage.Top; version = v })) (cond (is_version line) (Err (At WrongVersion (Some n))) (bad n)) new e) [
       | inl (v, found, made) ↦ made_is [] line (record d { stage = stage.Top; version = v }) new made (record { has = has; lines_are = ap (λ (l : List ℕ). l ∷ []) (sym (known_takes line v found)) })
       | inr (none, other) ↦ elim (cases_Bool (is_version line)) [
-        | inl is ↦ absurd (no_fault _ new (rw is at other))
-        | inr no ↦ absurd (no_fault _ new (rw no at other))
+        | inl known ↦ absurd (no_fault _ new (rw known at other))
+        | inr unknown ↦ absurd (no_fault _ new (rw unknown at other))
       ]
     ]
 

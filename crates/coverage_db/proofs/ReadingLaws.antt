@@ -28,7 +28,7 @@ use Rattle.coverage_db.specs.Fields.{◌>>=◌, behind, split_first, is_plain}
 use Rattle.coverage_db.specs.Reading.{point_of}
 use Rattle.std.specs.Option.{is_some}
 use Rattle.coverage_db.specs.Table.{Rises, IsIdentifier, IsInstance, IsPoint, IsSpan, IsTable, is_file_name}
-use Rattle.coverage_db.specs.Text.{begins_point, begins_window, lines_of, text_of_lines, text_in, text_of, IsTextOf, version_line, top_line, source_line, source_lines, instance_line, count_line, point_line, window_count_line, window_line, head_lines, lines_to_points, lines_to_windows, lines_with_counts}
+use Rattle.coverage_db.specs.Text.{begins_point, begins_window, lines_of, text_of_lines, text_in, IsTextOf, version_line, top_line, source_line, source_lines, instance_line, count_line, point_line, window_count_line, window_line, head_lines, lines_to_points, lines_to_windows, lines_with_counts}
 use Rattle.coverage_db.specs.Windows.{window_cmp}
 use Rattle.coverage_db.proofs.Completing.{bind, steps, counted, windowed, whole_draft, table_leads, windows_lead_to, wrong_count_is, wrong_window_count_is, all_lines, table_steps}
 use Rattle.coverage_db.proofs.DraftLaws.{by_address, known_again, IsPart, IsHead, ArePoints, AreSpans, AreCounted, no_windows, HasRead, lines_read, next_part, sources_push}
@@ -571,7 +571,7 @@ version_fault n d line f e =
     let other = or_else_none (version_of line) (λ v. record d { stage = stage.Top; version = v }) (cond (is_version line) (Err (At WrongVersion (Some n))) (bad n)) f e in
     elim (cases_Bool (is_version line)) [
       | inl is ↦ let same : ◌≡◌ {A = Result Draft DbFault} (Err (At WrongVersion (Some n))) (Err f) = rw is at other.1 in inr (inl (record { at = refl; fault = sym (same_err (At WrongVersion (Some n)) f same); version = is; other = other.0 }))
-      | inr no ↦ inl (bad_is n f (rw no at other.1))
+      | inr unknown ↦ inl (bad_is n f (rw unknown at other.1))
     ]
 
 top_fault : (n : ℕ) (d : Draft) (line : List ℕ) (f : DbFault) → next_top n d line ≡ Err f → f ≡ At BadLine (Some n)

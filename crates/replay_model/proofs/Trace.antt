@@ -1,6 +1,6 @@
 -- What a closing step tells the marks: the notes of which runs, on which stores.
 use Rattle.std.proofs.Common.{◌≡◌, ◌⊎◌, inl, inr, ⊎_elim, ℕ, suc, ◌≤◌, Bool, true, false, ◌||◌, ◌==◌, List, [], ◌∷◌, ◌++◌, refl, sym, subst, ◌∙◌, Option, Some, None, if◌then◌else◌}
-use Rattle.std.proofs.lemmas.Bool.{both_ways, cases_Bool, or_from, or_left, or_right}
+use Rattle.std.proofs.lemmas.Bool.{both_ways, cases_Bool, or_left, or_right}
 use Rattle.std.proofs.lemmas.Bool.{eq-eqb}
 use Rattle.event_machine.specs.Cell.{Cell}
 use Rattle.event_machine.specs.Habit.{Habit}

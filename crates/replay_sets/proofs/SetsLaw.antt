@@ -10,6 +10,7 @@ use Rattle.replay_model.specs.design_model.MayMove.{IsCleanAt}
 use Rattle.wake_laws.specs.early_sets.declared.habit.Habit.{Habit}
 use Rattle.wake_laws.specs.early_sets.WakeState.{WakeState, trigger_of}
 use Rattle.wake_laws.specs.early_sets.Has.{is_in}
+use Rattle.wake_laws.specs.early_sets.Rounds.{round_at}
 use Rattle.wake_laws.proofs.early_sets.Membership.{is_in_from, is_in_gives}
 use Rattle.wake_laws.specs.Laws.{AreInRounds, AreNotes, AreSingle, AreWakes, IsSettled, habit_of}
 use Rattle.wake_laws.specs.OfDesign.{AreTablesOf}
@@ -44,7 +45,8 @@ module _ (d : Design) (lawful : IsLawfulDesign d) (dump : BoundDump) (t : ℕ) (
       let clean = wakes.trigger p s is in
       let moved = moves_by d lawful dump t w tables notes single s clean.can_wake.1 in
       let first = rounds.first s (reached_below d lawful dump t w tables notes s moved) (single.complete s moved clean.is_single) in
-      subst (λ o. IsFirstRound d dump t (cell s 0) (round_by w o)) (sym is) (record { single = first.is_single; not_before = first.not_before })
+      let now : IsFirstRound d dump t (cell s 0) (round_at w s) = record { single = first.is_single; not_before = first.not_before } in
+      subst (λ o. IsFirstRound d dump t (cell s 0) (round_by w o)) (sym is) now
 
 pub sets_law : (d : Design) → IsLawfulDesign d → SetsLaw d
 sets_law d lawful dump t w h early tables notes rounds settled chosen =

@@ -2,8 +2,7 @@
 use Rattle.std.proofs.Common.{◌≡◌, ◌⊎◌, inl, inr, ⊎_elim, ℕ, ◌+◌, Bool, true, false, if◌then◌else◌, List, [], ◌∷◌, length, map, Option, Some, None, arith, refl, sym, ap, ◌∙◌}
 use Rattle.std.specs.Prelude.{IfSome, is_none, is_some, nat_le, sum_by, ⊤}
 use Rattle.std.specs.List.{filter}
-use Rattle.std.proofs.lemmas.Bool.{both_ways, cases_Bool, false≢true, false_from_ne_true, or_cases}
-use Rattle.std.proofs.lemmas.Bool.{eqb-true}
+use Rattle.std.proofs.lemmas.Bool.{eqb-true, false≢true, false_from_ne_true, or_cases}
 use Rattle.std.proofs.lemmas.List.Sums.{sum_by-cons}
 use Rattle.design_model.specs.Design.{In}
 use Rattle.clocked_marks.specs.chosen_runs.chosen_early.early_sets.Rounds.{round_at}
@@ -11,7 +10,7 @@ use Rattle.clocked_marks.specs.chosen_runs.chosen_early.early_sets.WakeState.{Wa
 use Rattle.replay_sets.specs.SetsOf.{round_by, round_of}
 use Rattle.replay_sets.specs.replay_model.Step.{in_rounds, put_in_round, put_in_rounds}
 use Rattle.wake_list.specs.Members.{has}
-use Rattle.wake_list.specs.Waiting.{with_process}
+use Rattle.wake_list.specs.Waiting.{Waiting, with_process}
 use Rattle.step_clocked.specs.Runs.{clean_in_rounds, is_unclean, runs_clean}
 
 -- each process has the number of its round as its rank
@@ -47,6 +46,10 @@ module _ (round : ℕ → ℕ) (p : ℕ) where
       go : (b : Bool) → length (with_process p (round p) qs) ≡ length qs + 1 → length (if b then x ∷ with_process p (round p) qs else (p, round p) ∷ x ∷ qs) ≡ length (x ∷ qs) + 1
       go true rest = omega (arith, rest)
       go false rest = omega arith
+
+-- two wake lists with the same pairs
+pub same_waiting : (a b : Waiting) → a.count ≡ b.count → a.pairs ≡ b.pairs → a ≡ b
+same_waiting a b count pairs = λ i. record { count = count i; pairs = pairs i }
 
 -- a process that the list has is in it
 pub has_gives : (p : ℕ) (xs : List ℕ) → has p xs ≡ true → In p xs
@@ -94,4 +97,5 @@ sum_parts f w (p ∷ ps) = go (trigger_of w p) (sum_parts f w ps)
     go (Some s) rest = let a = sum_by-cons f p (filter (runs_clean w) ps) in let b = sum_by-cons f p ps in omega (arith, a, b, rest)
 
 pub sum_in_turn : (f : ℕ → ℕ) (w : WakeState) (ps : List ℕ) → sum_by f (clean_in_rounds w ps) + sum_by f (filter (is_unclean w) ps) ≡ sum_by f ps
-sum_in_turn f w ps = let order = sum_puts f (round_of w) (filter (runs_clean w) ps) [] in let parts = sum_parts f w ps in omega (arith, order, parts)
+sum_in_turn f w ps =
+    let order = sum_puts f (round_of w) (filter (runs_clean w) ps) [] in let none : sum_by f [] ≡ 0 = refl in let parts = sum_parts f w ps in omega (arith, order, none, parts)

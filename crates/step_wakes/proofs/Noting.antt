@@ -314,21 +314,26 @@ noted_below before after changes n untold all so x i =
 -- what became single did so in a round with a number of at most the rounds
 number_within : (w : WakeState) (earlier : List WakeState) → AreRounds (w ∷ earlier) → (x : ℕ) → Contains w.derived x → get_or w.rounds x 0 ≤ length earlier
 number_within w [] rounds x i = let m = subst (λ xs. Contains xs x) rounds.0 i in absurd (omega (arith, m.1))
-number_within w (a ∷ earlier) (next, rounds) x i = ⊎_elim now before (cases_Bool (becomes_single a x))
+number_within w (a ∷ earlier) (next, rounds) x i = ⊎_elim now (λ h. before h (number_within a earlier rounds x (known h))) (cases_Bool (becomes_single a x))
   where
     now : becomes_single a x ≡ true → get_or w.rounds x 0 ≤ length (a ∷ earlier)
     now h = let is = next.now x h in omega (arith, is)
 
-    before : becomes_single a x ≡ false → get_or w.rounds x 0 ≤ length (a ∷ earlier)
-    before h =
-        let is = next.before x h in
-        let rest = number_within a earlier rounds x (⊎_elim (λ k. k) (λ k. absurd (both_ways _ h k)) ((next.derived x).0 i)) in
-        omega (arith, is, rest)
+    known : becomes_single a x ≡ false → Contains a.derived x
+    known h = ⊎_elim (λ k. k) (λ k. absurd (both_ways _ h k)) ((next.derived x).0 i)
+
+    before : becomes_single a x ≡ false → get_or a.rounds x 0 ≤ length earlier → get_or w.rounds x 0 ≤ length (a ∷ earlier)
+    before h rest = let is = next.before x h in omega (arith, is, rest)
 
 pub round_within : (w : WakeState) (earlier : List WakeState) → AreRounds (w ∷ earlier) → length earlier ≤ w.tables.things → (x : ℕ) → Contains w.derived x → round_at w x ≤ w.tables.things
-round_within w earlier rounds few x i =
-    let most = number_within w earlier rounds x i in
-    ⊎_elim (λ h. subst (λ n. n ≤ w.tables.things) (sym (ap (λ b. cond b 0 (get_or w.rounds x 0)) h)) (omega arith)) (λ h. subst (λ n. n ≤ w.tables.things) (sym (ap (λ b. cond b 0 (get_or w.rounds x 0)) h)) (omega (arith, most, few))) (cases_Bool (is_told w x))
+round_within w earlier rounds few x i = go (is_told w x)
+  where
+    most : get_or w.rounds x 0 ≤ length earlier
+    most = number_within w earlier rounds x i
+
+    go : (b : Bool) → cond b 0 (get_or w.rounds x 0) ≤ w.tables.things
+    go true = omega arith
+    go false = omega (arith, most, few)
 
 -- what became single in a round has a writer
 pub derived_written : (w : WakeState) (earlier : List WakeState) → AreRounds (w ∷ earlier) → (x : ℕ) → Contains w.derived x → is_some (writer_at w x) ≡ true

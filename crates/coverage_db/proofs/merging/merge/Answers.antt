@@ -1,4 +1,4 @@
-use Rattle.std.proofs.Common.{◌≡◌, ◌<◌, ◌^◌, ℕ, List, length, sym, ap, subst, ◌∙◌}
+use Rattle.std.proofs.Common.{◌<◌, ◌^◌, List, length, sym, ap, subst, ◌∙◌}
 use Rattle.coverage_db.specs.declared.window.Window.{Window}
 use Rattle.coverage_db.specs.Windows.{joined_windows}
 use Rattle.coverage_db.proofs.MergeLaws.{none_alike, alike_lines, some_differs, differs_at, merged_table}

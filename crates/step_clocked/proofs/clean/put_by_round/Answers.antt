@@ -1,9 +1,9 @@
-use Rattle.std.proofs.Common.{◌≡◌, ◌∙◌, ⊎_elim, inl, inr, ◌++◌, ◌∷◌, [], ℕ, List, ap, arith, length, map, refl, subst, sym}
-use Rattle.std.specs.Prelude.{is_none, is_some, not}
+use Rattle.std.proofs.Common.{◌≡◌, ◌∙◌, ⊎_elim, inl, inr, ◌++◌, ◌∷◌, [], ℕ, true, false, List, ap, arith, cond, length, map, refl, subst, sym}
+use Rattle.std.specs.Prelude.{is_some, not}
 use Rattle.std.specs.List.{filter}
 use Rattle.std.proofs.lemmas.List.{append-nil, length-append}
-use Rattle.design_model.specs.Design.{In}
-use Rattle.clocked_marks.specs.chosen_runs.chosen_early.early_sets.WakeState.{state_of, trigger_of}
+use Rattle.design_model.specs.Design.{AreDistinct, In}
+use Rattle.clocked_marks.specs.chosen_runs.chosen_early.early_sets.WakeState.{state_of}
 use Rattle.replay_sets.specs.SetsOf.{round_of}
 use Rattle.replay_sets.specs.replay_model.Step.{put_in_round, put_in_rounds}
 use Rattle.wake_list.specs.Waiting.{with_process}
@@ -11,7 +11,7 @@ use Rattle.clocked_laws.proofs.replay_model.Rounds.{in_put}
 use Rattle.step_clocked.specs.Runs.{is_unclean, runs_clean}
 use Rattle.step_clocked.proofs.Members.{filter_passed, filter_taken, once_distinct}
 use Rattle.step_clocked.proofs.Order.{not_clean, unclean_from}
-use Rattle.step_clocked.proofs.Rounds.{length_with, named_with, not_has, ranked_with, round_is}
+use Rattle.step_clocked.proofs.Rounds.{AreRanked, length_with, named_with, not_has, ranked_with, round_is}
 use Rattle.step_clocked.proofs.clean.put_by_round.Goals as goal
 
 pub loop-process-init : goal.loop-process-init
@@ -27,13 +27,13 @@ loop-process-init c =
       few = let a = ap length none in let b = ap length c.requires.none_later in let few = c.fitting.ensures.few in omega (arith, a, b, few);
       once = once_distinct all c.fitting.ensures.once;
       apart = λ p i j. subst (λ (qs : List (ℕ × ℕ)). In p (map (λ (q : ℕ × ℕ). q.0) qs)) none j;
-      ranked = subst (Rattle.step_clocked.proofs.Rounds.AreRanked (round_of w)) (sym none) tt;
+      ranked = subst (AreRanked (round_of w)) (sym none) tt;
       clean = ap (λ (qs : List (ℕ × ℕ)). put_in_rounds (round_of w) (filter (runs_clean w) all) (map (λ (q : ℕ × ℕ). q.0) qs)) none;
     }
 
 -- a clean one
-pub loop-process-preserved : goal.loop-process-preserved
-loop-process-preserved c =
+pub loop-process-preserved-then-is_some : goal.loop-process-preserved-then-is_some
+loop-process-preserved-then-is_some c =
     let w = state_of c.args.sets.now in
     let old = c.loop-process.invariant in
     let p = c.in-Some.process in
@@ -41,12 +41,12 @@ loop-process-preserved c =
     let rest = map (λ (q : ℕ × ℕ). q.0) c.take.new.self.pairs in
     let before = map (λ (q : ℕ × ℕ). q.0) c.loop-process.by_round.pairs in
     let listed : map (λ (q : ℕ × ℕ). q.0) c.loop-process.list.pairs ≡ p ∷ rest = ap (map (λ (q : ℕ × ℕ). q.0)) next.1 in
-    let clean : runs_clean w p ≡ true = ap is_some (sym c.trigger.ensures.value) ∙ c.is_some.ensures ∙ c.if-is_some.true in
-    let once = subst Rattle.design_model.specs.Design.AreDistinct listed old.once in
+    let clean : runs_clean w p ≡ true = ap is_some (sym c.trigger.ensures.value) ∙ sym c.is_some.ensures ∙ c.if-is_some.true in
+    let once = subst AreDistinct listed old.once in
     let fresh = not_has p before (λ j. old.apart p (subst (In p) (sym listed) (inl refl)) j) in
     let round = round_is w p c.round.result clean c.round.ensures in
     let put : c.put.new.self.pairs ≡ with_process p (round_of w p) c.loop-process.by_round.pairs =
-        c.put.ensures.pairs ∙ ap (λ b. Rattle.std.specs.Prelude.cond b (with_process p c.round.result c.loop-process.by_round.pairs) c.loop-process.by_round.pairs) (c.put.ensures.there ∙ ap not fresh) ∙ ap (λ n. with_process p n c.loop-process.by_round.pairs) round in
+        c.put.ensures.pairs ∙ ap (λ b. cond b (with_process p c.round.result c.loop-process.by_round.pairs) c.loop-process.by_round.pairs) (c.put.ensures.there ∙ ap not fresh) ∙ ap (λ n. with_process p n c.loop-process.by_round.pairs) round in
     let named : map (λ (q : ℕ × ℕ). q.0) c.put.new.self.pairs ≡ put_in_round (round_of w) p before = ap (map (λ (q : ℕ × ℕ). q.0)) put ∙ named_with (round_of w) p c.loop-process.by_round.pairs old.ranked in
     record {
       count = c.take.ensures.count ∙ old.count;
@@ -56,16 +56,16 @@ loop-process-preserved c =
       few = let few = old.few in let more = ap length put in let size = length_with (round_of w) p c.loop-process.by_round.pairs in let less = ap length next.1 in omega (arith, few, more, size, less);
       once = once.1;
       apart = λ q i j. ⊎_elim (λ same. once.0 (subst (λ z. In z rest) (sym same) i)) (λ k. old.apart q (subst (In q) (sym listed) (inr i)) k) (in_put (round_of w) p q before (subst (In q) named j));
-      ranked = subst (Rattle.step_clocked.proofs.Rounds.AreRanked (round_of w)) (sym put) (ranked_with (round_of w) p c.loop-process.by_round.pairs old.ranked);
+      ranked = subst (AreRanked (round_of w)) (sym put) (ranked_with (round_of w) p c.loop-process.by_round.pairs old.ranked);
       clean =
           ap (put_in_rounds (round_of w) (filter (runs_clean w) rest)) named
-          ∙ ap (λ xs. put_in_rounds (round_of w) xs before) (ap (λ b. Rattle.std.specs.Prelude.cond b (p ∷ filter (runs_clean w) rest) (filter (runs_clean w) rest)) (sym clean))
+          ∙ ap (λ xs. put_in_rounds (round_of w) xs before) (ap (λ b. cond b (p ∷ filter (runs_clean w) rest) (filter (runs_clean w) rest)) (sym clean))
           ∙ ap (λ ps. put_in_rounds (round_of w) (filter (runs_clean w) ps) before) (sym listed) ∙ old.clean;
     }
 
 -- another one
-pub loop-process-preserved-else : goal.loop-process-preserved-else
-loop-process-preserved-else c =
+pub loop-process-preserved : goal.loop-process-preserved
+loop-process-preserved c =
     let w = state_of c.args.sets.now in
     let old = c.loop-process.invariant in
     let p = c.in-Some.process in
@@ -73,9 +73,9 @@ loop-process-preserved-else c =
     let rest = map (λ (q : ℕ × ℕ). q.0) c.take.new.self.pairs in
     let before = map (λ (q : ℕ × ℕ). q.0) c.loop-process.by_round.pairs in
     let listed : map (λ (q : ℕ × ℕ). q.0) c.loop-process.list.pairs ≡ p ∷ rest = ap (map (λ (q : ℕ × ℕ). q.0)) next.1 in
-    let clean : runs_clean w p ≡ false = ap is_some (sym c.trigger.ensures.value) ∙ c.is_some.ensures ∙ c.if-is_some.false in
+    let clean : runs_clean w p ≡ false = ap is_some (sym c.trigger.ensures.value) ∙ sym c.is_some.ensures ∙ c.if-is_some.false in
     let pushed = ap (λ r. r.items) c.push.ensures in
-    let once = subst Rattle.design_model.specs.Design.AreDistinct listed old.once in
+    let once = subst AreDistinct listed old.once in
     record {
       count = c.take.ensures.count ∙ old.count;
       rounds = old.rounds;
@@ -105,7 +105,7 @@ round-requires-clause-process c =
     omega (arith, below, count, many)
 
 pub round-requires-clause-clean : goal.round-requires-clause-clean
-round-requires-clause-clean c = ap is_some (sym c.trigger.ensures.value) ∙ c.is_some.ensures ∙ c.if-is_some.true
+round-requires-clause-clean c = ap is_some (sym c.trigger.ensures.value) ∙ sym c.is_some.ensures ∙ c.if-is_some.true
 
 pub put-requires-clause-process : goal.put-requires-clause-process
 put-requires-clause-process c =
@@ -119,7 +119,7 @@ pub put-requires-clause-rank : goal.put-requires-clause-rank
 put-requires-clause-rank c =
     let w = state_of c.args.sets.now in
     let p = c.in-Some.process in
-    let clean : runs_clean w p ≡ true = ap is_some (sym c.trigger.ensures.value) ∙ c.is_some.ensures ∙ c.if-is_some.true in
+    let clean : runs_clean w p ≡ true = ap is_some (sym c.trigger.ensures.value) ∙ sym c.is_some.ensures ∙ c.if-is_some.true in
     let is = round_is w p c.round.result clean c.round.ensures in
     let low = c.requires.ranks p clean in
     let same = c.loop-process.invariant.rounds in

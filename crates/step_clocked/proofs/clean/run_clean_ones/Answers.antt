@@ -88,8 +88,8 @@ loop-process-preserved g c =
     }
 
 -- each of the list is clean
-pub unreachable-in-None : goal.unreachable-in-None
-unreachable-in-None g c =
+pub unreachable-requires : goal.unreachable-requires
+unreachable-requires g c =
     let w = state_of c.args.sets.now in
     let v = state_of c.loop-process.sets in
     let old = c.loop-process.invariant in

@@ -16,6 +16,7 @@ use Rattle.step_clocked.proofs.Folds.{step_trigger, step_waker, weak_rest}
 use Rattle.step_clocked.proofs.Members.{all_below, filter_in, filter_same, in_filter, in_pairs}
 use Rattle.step_clocked.proofs.Order.{unclean_none, weak_twice}
 use Rattle.step_clocked.proofs.Rooms.{all_in_turn, at_in_turn}
+use Rattle.step_clocked.proofs.Rounds.{same_waiting}
 use Rattle.step_clocked.proofs.Sets.{round_below, trigger_same, waker_same, woken_same}
 use Rattle.step_clocked.proofs.turns.run_in_turn.Goals as goal
 
@@ -110,7 +111,7 @@ run_weak_ones-requires-clause-ready g c =
 -- ---- all of them
 
 pub returns-clause-by_round : goal.returns-clause-by_round
-returns-clause-by_round g c = λ i. record { count = (c.run_clean_ones.ensures.count ∙ c.put_by_round.ensures.rounds) i; pairs = (c.run_clean_ones.ensures.empty ∙ sym c.requires.none_by_round) i }
+returns-clause-by_round g c = same_waiting c.run_clean_ones.new.list c.args.by_round.now (c.run_clean_ones.ensures.count ∙ c.put_by_round.ensures.rounds) (c.run_clean_ones.ensures.empty ∙ sym c.requires.none_by_round)
 
 pub returns-clause-ran : goal.returns-clause-ran
 returns-clause-ran g c =
