@@ -5,7 +5,7 @@ use Rattle.std.specs.Str.{bytes_eq}
 use Rattle.std.proofs.lemmas.Bool.{false≢true, eqb-true, false_from_ne_true}
 use Rattle.std.proofs.lemmas.Slice.Eq.{bytes_eq-Decides}
 use Rattle.command_line.specs.declared.database_command.DatabaseCommand.{DatabaseCommand}
-use Rattle.command_line.specs.declared.database_command.DatabaseCommand.TheVariants.{Merge, Report, Lcov}
+use Rattle.command_line.specs.declared.database_command.DatabaseCommand.TheVariants.{Merge, Report, Lcov, Rank}
 use Rattle.command_line.specs.declared.database_option.DatabaseOption.{DatabaseOption}
 use Rattle.command_line.specs.declared.database_option.DatabaseOption.TheVariants.{Level, Metrics, ByInstance, Covered, Output}
 use Rattle.command_line.specs.DatabaseOption.{accepts, has_option, is_database_name, is_same, option_named, option_text, options, takes_value, IsNoOptionOf, IsOptionOf}
@@ -97,6 +97,7 @@ named_text Report Covered has = refl
 named_text Report Output has = refl
 named_text Lcov Output has = refl
 named_text Lcov option has = absurd (false≢true has)
+named_text Rank option has = absurd (false≢true has)
 
 pub named_option : (command : DatabaseCommand) (option : DatabaseOption) (word : List ℕ) → IsOptionOf command option word → named command word ≡ Some option
 named_option command option word is = ap (named command) is.1 ∙ named_text command option is.0

@@ -12,3 +12,4 @@ pub mod Outcome
 pub mod OneCommand
 pub mod LcovReading
 pub mod Names
+pub mod RankReading

@@ -3,14 +3,15 @@ use Rattle.std.proofs.Common.{◌≡◌, ◌∙◌, ℕ, Bool, true, false, List
 use Rattle.std.specs.List.{last_or}
 use Rattle.command_line.specs.declared.report_level.ReportLevel.{ReportLevel}
 use Rattle.command_line.specs.declared.report_metrics.ReportMetrics.{ReportMetrics}
-use Rattle.command_line.specs.Command.{AreWordsOf, CommandValues, score, merge, report, lcov}
+use Rattle.command_line.specs.Command.{AreWordsOf, CommandValues, score, merge, report, lcov, rank}
 use Rattle.command_line.specs.CommandWords.{at_most_one, flag_values, AreValues, GivenOption, IsScore, ScoreValues}
 use Rattle.command_line.specs.Define.{Define}
 use Rattle.command_line.specs.DrawingWords.{DrawingNames}
 use Rattle.command_line.specs.MachineWords.{MachineNames}
 use Rattle.command_line.specs.DatabaseWords.{AreMergeValues, AreReportValues, IsMerge, IsReport, Item, MergeValues, ReportValues}
 use Rattle.command_line.specs.LcovWords.{AreLcovValues, IsLcov, LcovValues}
-use Rattle.command_line.proofs.Outcome.{outcome_of-score, outcome_of-merge, outcome_of-report, outcome_of-lcov}
+use Rattle.command_line.specs.RankWords.{AreRankValues, IsRank, RankValues}
+use Rattle.command_line.proofs.Outcome.{outcome_of-score, outcome_of-merge, outcome_of-report, outcome_of-lcov, outcome_of-rank}
 
 -- the values as one
 all_values : (top instance : List ℕ) (sources : List (List ℕ)) (defines : List Define) (folder : Option (List ℕ)) (dump output : List ℕ) (machines : List MachineNames) (drawings : List DrawingNames) (late : Bool) → ScoreValues
@@ -83,6 +84,20 @@ one_lcov words a b is_a is_b =
     let same : is_b.0 ≡ is_a.0 = cc in
     one_lcov_values is_a.0 a b is_a.2 (rw (same) at is_b.2)
 
+rank_of : (first : List ℕ) (others : List (List ℕ)) → RankValues
+rank_of first others = record { first = first; others = others }
+
+one_rank_values : (items : List Item) (a b : RankValues) → AreRankValues items a → AreRankValues items b → a ≡ b
+unfolding rank_of
+one_rank_values items a b are_a are_b =
+    let e : rank_of a.first a.others ≡ rank_of b.first b.others = cc in e
+
+pub one_rank : (words : List (List ℕ)) (a b : RankValues) → IsRank words a → IsRank words b → a ≡ b
+one_rank words a b is_a is_b =
+    let e = sym (outcome_of-rank words a is_a) ∙ outcome_of-rank words b is_b in
+    let same : is_b.0 ≡ is_a.0 = cc in
+    one_rank_values is_a.0 a b is_a.2 (rw (same) at is_b.2)
+
 -- words of one kind of command are none of another kind
 pub one_of_all : (words : List (List ℕ)) (a b : CommandValues) → AreWordsOf a words → AreWordsOf b words → a ≡ b
 one_of_all words (score a) (score b) is_a is_b = ap score (one_command words a b is_a is_b)
@@ -101,3 +116,12 @@ one_of_all words (lcov a) (merge b) is_a is_b = let e = sym (outcome_of-lcov wor
 one_of_all words (merge a) (lcov b) is_a is_b = let e = sym (outcome_of-merge words a is_a) ∙ outcome_of-lcov words b is_b in cc
 one_of_all words (lcov a) (report b) is_a is_b = let e = sym (outcome_of-lcov words a is_a) ∙ outcome_of-report words b is_b in cc
 one_of_all words (report a) (lcov b) is_a is_b = let e = sym (outcome_of-report words a is_a) ∙ outcome_of-lcov words b is_b in cc
+one_of_all words (rank a) (rank b) is_a is_b = ap rank (one_rank words a b is_a is_b)
+one_of_all words (rank a) (score b) is_a is_b = let e = sym (outcome_of-rank words a is_a) ∙ outcome_of-score words b is_b in cc
+one_of_all words (score a) (rank b) is_a is_b = let e = sym (outcome_of-score words a is_a) ∙ outcome_of-rank words b is_b in cc
+one_of_all words (rank a) (merge b) is_a is_b = let e = sym (outcome_of-rank words a is_a) ∙ outcome_of-merge words b is_b in cc
+one_of_all words (merge a) (rank b) is_a is_b = let e = sym (outcome_of-merge words a is_a) ∙ outcome_of-rank words b is_b in cc
+one_of_all words (rank a) (report b) is_a is_b = let e = sym (outcome_of-rank words a is_a) ∙ outcome_of-report words b is_b in cc
+one_of_all words (report a) (rank b) is_a is_b = let e = sym (outcome_of-report words a is_a) ∙ outcome_of-rank words b is_b in cc
+one_of_all words (rank a) (lcov b) is_a is_b = let e = sym (outcome_of-rank words a is_a) ∙ outcome_of-lcov words b is_b in cc
+one_of_all words (lcov a) (rank b) is_a is_b = let e = sym (outcome_of-lcov words a is_a) ∙ outcome_of-rank words b is_b in cc

@@ -4,16 +4,17 @@ use Rattle.std.specs.Str.{bytes_eq}
 use Rattle.std.proofs.lemmas.Bool.{false_from_ne_true}
 use Rattle.std.proofs.lemmas.Slice.Eq.{bytes_eq-Decides}
 use Rattle.command_line.specs.declared.database_command.DatabaseCommand.{DatabaseCommand}
-use Rattle.command_line.specs.declared.database_command.DatabaseCommand.TheVariants.{Merge, Report, Lcov}
+use Rattle.command_line.specs.declared.database_command.DatabaseCommand.TheVariants.{Merge, Report, Lcov, Rank}
 use Rattle.command_line.specs.declared.database_option.DatabaseOption.TheVariants.{Output}
 use Rattle.command_line.specs.declared.score_option.ScoreOption.TheVariants.{Source}
 use Rattle.command_line.specs.declared.usage_fault.UsageFault.{UsageFault}
 use Rattle.command_line.specs.declared.usage_fault.UsageFault.TheVariants.{NoCommand, UnknownCommand}
-use Rattle.command_line.specs.Command.{AreWordsOf, CommandValues, score, merge, report, lcov}
+use Rattle.command_line.specs.Command.{AreWordsOf, CommandValues, score, merge, report, lcov, rank}
 use Rattle.command_line.specs.CommandWords.{is_absent, AreValues, GivenOption, IsScore, ScoreValues}
 use Rattle.command_line.specs.DatabaseFault.{missing_of, HasDatabaseFault}
 use Rattle.command_line.specs.DatabaseWords.{AreMergeValues, AreReportValues, Item, IsMerge, IsReport, IsUpTo, MergeValues, ReportValues, command_text, files_in, value_in as item_value}
 use Rattle.command_line.specs.LcovWords.{AreLcovValues, IsLcov, LcovValues}
+use Rattle.command_line.specs.RankWords.{AreRankValues, IsRank, RankValues}
 use Rattle.command_line.specs.UsageFault.{usage_text, HasScoreFault, HasUsageFault}
 use Rattle.command_line.proofs.GivenLemmas.{not_empty}
 use Rattle.command_line.proofs.DatabaseOutcome as database
@@ -34,12 +35,14 @@ outcome_of (word ∷ left) =
     cond (bytes_eq word (codes "score")) (mapped options (scoring.outcome [] left))
     (cond (bytes_eq word (codes "merge")) (mapped (items Merge) (database.outcome Merge [] left))
     (cond (bytes_eq word (codes "report")) (mapped (items Report) (database.outcome Report [] left))
-    (cond (bytes_eq word (codes "lcov")) (mapped (items Lcov) (database.outcome Lcov [] left)) (Err (codes "unknown command " ++ word)))))
+    (cond (bytes_eq word (codes "lcov")) (mapped (items Lcov) (database.outcome Lcov [] left))
+    (cond (bytes_eq word (codes "rank")) (mapped (items Rank) (database.outcome Rank [] left)) (Err (codes "unknown command " ++ word))))))
 
 outcome_of-database : (command : DatabaseCommand) (left : List (List ℕ)) → outcome_of (command_text command ∷ left) ≡ mapped (items command) (database.outcome command [] left)
 outcome_of-database Merge left = refl
 outcome_of-database Report left = refl
 outcome_of-database Lcov left = refl
+outcome_of-database Rank left = refl
 
 -- items are read after the command
 outcome_of-items : (command : DatabaseCommand) (words : List (List ℕ)) (read : List Item) (left : List (List ℕ)) → IsUpTo command words read left → outcome_of words ≡ mapped (items command) (database.outcome command read left)
@@ -53,11 +56,12 @@ outcome_of-score_fault words fault h = ap outcome_of h.2.spells ∙ ap (mapped o
 outcome_of-database_fault : (command : DatabaseCommand) (words : List (List ℕ)) (fault : UsageFault) → HasDatabaseFault command words fault → outcome_of words ≡ Err (usage_text fault)
 outcome_of-database_fault command words fault h = outcome_of-items command words h.0 h.1 h.2 ∙ ap (mapped (items command)) (database.outcome-fault command h.0 h.1 fault h.3)
 
-outcome_of-any_fault : (words : List (List ℕ)) (fault : UsageFault) → HasScoreFault words fault ⊎ HasDatabaseFault Merge words fault ⊎ HasDatabaseFault Report words fault ⊎ HasDatabaseFault Lcov words fault → outcome_of words ≡ Err (usage_text fault)
+outcome_of-any_fault : (words : List (List ℕ)) (fault : UsageFault) → HasScoreFault words fault ⊎ HasDatabaseFault Merge words fault ⊎ HasDatabaseFault Report words fault ⊎ HasDatabaseFault Lcov words fault ⊎ HasDatabaseFault Rank words fault → outcome_of words ≡ Err (usage_text fault)
 outcome_of-any_fault words fault (inl of_score) = outcome_of-score_fault words fault of_score
 outcome_of-any_fault words fault (inr (inl of_merge)) = outcome_of-database_fault Merge words fault of_merge
 outcome_of-any_fault words fault (inr (inr (inl of_report))) = outcome_of-database_fault Report words fault of_report
-outcome_of-any_fault words fault (inr (inr (inr of_lcov))) = outcome_of-database_fault Lcov words fault of_lcov
+outcome_of-any_fault words fault (inr (inr (inr (inl of_lcov)))) = outcome_of-database_fault Lcov words fault of_lcov
+outcome_of-any_fault words fault (inr (inr (inr (inr of_rank)))) = outcome_of-database_fault Rank words fault of_rank
 
 no_name : (word name : List ℕ) → (word ≡ name → ⊥) → bytes_eq word name ≡ false
 no_name word name other = false_from_ne_true (bytes_eq word name) (λ e. other ((bytes_eq-Decides word name).0 e))
@@ -66,7 +70,8 @@ no_name word name other = false_from_ne_true (bytes_eq word name) (λ e. other (
 pub outcome_of-fault : (words : List (List ℕ)) (fault : UsageFault) → HasUsageFault words fault → outcome_of words ≡ Err (usage_text fault)
 outcome_of-fault words NoCommand h = ap outcome_of h
 outcome_of-fault words (UnknownCommand word) h =
-    ap outcome_of h.0.1 ∙ rw (no_name word.now (codes "score") h.1.0, no_name word.now (codes "merge") h.1.1, no_name word.now (codes "report") h.1.2, no_name word.now (codes "lcov") h.1.3)
+    let other = no_name word.now in
+    ap outcome_of h.0.1 ∙ rw (other (codes "score") h.1.0, other (codes "merge") h.1.1, other (codes "report") h.1.2, other (codes "lcov") h.1.3, other (codes "rank") h.1.4)
 outcome_of-fault words fault h = outcome_of-any_fault words fault h
 
 -- all that a command needs was given
@@ -92,6 +97,9 @@ report_end read values are = rw are.file
 lcov_end : (read : List Item) (values : LcovValues) → AreLcovValues read values → missing_of Lcov (item_value read Output) (files_in read) ≡ None
 lcov_end read values are = rw (are.output, are.file)
 
+rank_end : (read : List Item) (values : RankValues) → AreRankValues read values → missing_of Rank (item_value read Output) (files_in read) ≡ None
+rank_end read values are = rw are
+
 -- a command's words come to its options or items
 pub outcome_of-score : (words : List (List ℕ)) (values : ScoreValues) (is : IsScore words values) → outcome_of words ≡ Ok (options is.0)
 outcome_of-score words values is = ap outcome_of is.1.spells ∙ ap (mapped options) (scoring.outcome-up_to is.0 [] is.1.are_given ∙ score_end is.0 values is.2)
@@ -105,9 +113,13 @@ outcome_of-report words values is = outcome_of-items Report words is.0 [] is.1 �
 pub outcome_of-lcov : (words : List (List ℕ)) (values : LcovValues) (is : IsLcov words values) → outcome_of words ≡ Ok (items Lcov is.0)
 outcome_of-lcov words values is = outcome_of-items Lcov words is.0 [] is.1 ∙ ap (mapped (items Lcov)) (ap (database.at_end is.0) (lcov_end is.0 values is.2))
 
+pub outcome_of-rank : (words : List (List ℕ)) (values : RankValues) (is : IsRank words values) → outcome_of words ≡ Ok (items Rank is.0)
+outcome_of-rank words values is = outcome_of-items Rank words is.0 [] is.1 ∙ ap (mapped (items Rank)) (ap (database.at_end is.0) (rank_end is.0 values is.2))
+
 -- so words that come to a command have no fault
 pub command_without_fault : (words : List (List ℕ)) (values : CommandValues) (fault : UsageFault) → AreWordsOf values words → HasUsageFault words fault → ⊥
 command_without_fault words (score values) fault is has = let e = sym (outcome_of-score words values is) ∙ outcome_of-fault words fault has in cc
 command_without_fault words (merge values) fault is has = let e = sym (outcome_of-merge words values is) ∙ outcome_of-fault words fault has in cc
 command_without_fault words (report values) fault is has = let e = sym (outcome_of-report words values is) ∙ outcome_of-fault words fault has in cc
 command_without_fault words (lcov values) fault is has = let e = sym (outcome_of-lcov words values is) ∙ outcome_of-fault words fault has in cc
+command_without_fault words (rank values) fault is has = let e = sym (outcome_of-rank words values is) ∙ outcome_of-fault words fault has in cc

@@ -5,6 +5,7 @@ use Rattle.command_line.specs.declared.command.Command.TheVariants as command
 use Rattle.command_line.specs.CommandWords.{IsScore, ScoreValues, score_values}
 use Rattle.command_line.specs.DatabaseWords.{IsMerge, IsReport, MergeValues, ReportValues, merge_values, report_values}
 use Rattle.command_line.specs.LcovWords.{IsLcov, LcovValues, lcov_values}
+use Rattle.command_line.specs.RankWords.{IsRank, RankValues, rank_values}
 
 -- the values of a command
 pub data CommandValues : Type 0 where
@@ -12,6 +13,7 @@ pub data CommandValues : Type 0 where
   merge : MergeValues → CommandValues
   report : ReportValues → CommandValues
   lcov : LcovValues → CommandValues
+  rank : RankValues → CommandValues
 
 -- the words are the command with these values
 abbrev pub AreWordsOf : CommandValues → List (List ℕ) → Type 0
@@ -19,6 +21,7 @@ AreWordsOf (score values) words = IsScore words values
 AreWordsOf (merge values) words = IsMerge words values
 AreWordsOf (report values) words = IsReport words values
 AreWordsOf (lcov values) words = IsLcov words values
+AreWordsOf (rank values) words = IsRank words values
 
 -- the values as texts, without where they lie in memory
 abbrev pub command_values : Command → CommandValues
@@ -26,6 +29,7 @@ command_values (command.Score words) = score (score_values words)
 command_values (command.Merge words) = merge (merge_values words)
 command_values (command.Report words) = report (report_values words)
 command_values (command.Lcov words) = lcov (lcov_values words)
+command_values (command.Rank words) = rank (rank_values words)
 
 -- the words are this command
 abbrev pub IsCommand : List (List ℕ) → Command → Type 0

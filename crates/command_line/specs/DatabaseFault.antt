@@ -1,7 +1,7 @@
 -- The first fault of words that begin as a command that reads databases.
 use Rattle.std.specs.Prelude.{◌≡◌, ◌⊎◌, ◌==◌, ℕ, false, IsTrue, IsSome, List, [], ◌∷◌, length, Option, Some, None, codes}
 use Rattle.command_line.specs.declared.database_command.DatabaseCommand.{DatabaseCommand}
-use Rattle.command_line.specs.declared.database_command.DatabaseCommand.TheVariants.{Merge, Report, Lcov}
+use Rattle.command_line.specs.declared.database_command.DatabaseCommand.TheVariants.{Merge, Report, Lcov, Rank}
 use Rattle.command_line.specs.declared.database_option.DatabaseOption.{DatabaseOption}
 use Rattle.command_line.specs.declared.database_option.DatabaseOption.TheVariants.{Output}
 use Rattle.command_line.specs.declared.usage_fault.UsageFault.{UsageFault}
@@ -13,7 +13,7 @@ use Rattle.command_line.specs.DatabaseWords.{Item, files_in, value_in, IsUpTo}
 abbrev pub IsNoDatabase : DatabaseCommand → List Item → List ℕ → Type 0
 IsNoDatabase command items word = (is_database_name word ≡ false) ⊎ (has_room command (length (files_in items) == 0) ≡ false)
 
--- a merge needs `-o` and two databases, a report needs one, a tracefile `-o` and one
+-- a merge needs `-o` and two databases, a report needs one, a tracefile `-o` and one, and a ranking one
 abbrev pub missing_of : DatabaseCommand → Option (List ℕ) → List (List ℕ) → Option (List ℕ)
 missing_of Merge None files = Some (codes "-o")
 missing_of Merge (Some output) (first ∷ second ∷ others) = None
@@ -23,6 +23,8 @@ missing_of Report output (first ∷ others) = None
 missing_of Lcov None files = Some (codes "-o")
 missing_of Lcov (Some output) [] = Some (codes "file")
 missing_of Lcov (Some output) (first ∷ others) = None
+missing_of Rank output [] = Some (codes "file")
+missing_of Rank output (first ∷ others) = None
 
 abbrev pub IsGivenTwice : DatabaseCommand → List Item → List ℕ → List (List ℕ) → Type 0
 IsGivenTwice command items word left = (option : DatabaseOption) × (rest : List (List ℕ)) × (left ≡ word ∷ rest) × IsOptionOf command option word × IsSome (value_in items option)

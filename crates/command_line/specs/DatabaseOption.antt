@@ -3,7 +3,7 @@ use Rattle.std.specs.Prelude.{◌≡◌, ℕ, Bool, true, false, not, ◌&&◌, 
 use Rattle.std.specs.List.{find}
 use Rattle.std.specs.Str.{bytes_eq}
 use Rattle.command_line.specs.declared.database_command.DatabaseCommand.{DatabaseCommand}
-use Rattle.command_line.specs.declared.database_command.DatabaseCommand.TheVariants.{Merge, Report, Lcov}
+use Rattle.command_line.specs.declared.database_command.DatabaseCommand.TheVariants.{Merge, Report, Lcov, Rank}
 use Rattle.command_line.specs.declared.database_option.DatabaseOption.{DatabaseOption}
 use Rattle.command_line.specs.declared.database_option.DatabaseOption.TheVariants.{Level, Metrics, ByInstance, Covered, Output}
 use Rattle.command_line.specs.ReportLevel.{level_named}
@@ -46,13 +46,14 @@ accepts ByInstance value = length value == 0
 accepts Covered value = length value == 0
 accepts Output value = is_file_name value
 
--- `merge` and `lcov` have `-o` alone, and `report` has all options
+-- `merge` and `lcov` have `-o` alone, `report` has all options, and `rank` has none
 abbrev pub has_option : DatabaseCommand → DatabaseOption → Bool
 has_option Merge Output = true
 has_option Merge option = false
 has_option Report option = true
 has_option Lcov Output = true
 has_option Lcov option = false
+has_option Rank option = false
 
 -- the word is this option of the command
 abbrev pub IsOptionOf : DatabaseCommand → DatabaseOption → List ℕ → Type 0
@@ -62,11 +63,12 @@ IsOptionOf command option word = IsTrue (has_option command option) × (word ≡
 abbrev pub IsNoOptionOf : DatabaseCommand → List ℕ → Type 0
 IsNoOptionOf command word = (option : DatabaseOption) → IsOptionOf command option word → ⊥
 
--- `report` and `lcov` have room for one database, the first; a merge has room for any number
+-- `report` and `lcov` have room for one database, the first; `merge` and `rank` have room for any number
 abbrev pub has_room : DatabaseCommand → Bool → Bool
 has_room Merge first = true
 has_room Report first = first
 has_room Lcov first = first
+has_room Rank first = true
 
 -- a database is named by a file's name that does not begin as an option does
 abbrev pub is_database_name : List ℕ → Bool

@@ -1,7 +1,7 @@
 -- The words of a command that reads databases.
 use Rattle.std.specs.Prelude.{◌≡◌, ◌≢◌, ◌==◌, ℕ, Bool, if◌then◌else◌, IsTrue, List, [], ◌∷◌, ◌++◌, length, Option, Some, None, is_some, codes}
 use Rattle.command_line.specs.declared.database_command.DatabaseCommand.{DatabaseCommand}
-use Rattle.command_line.specs.declared.database_command.DatabaseCommand.TheVariants.{Merge, Report, Lcov}
+use Rattle.command_line.specs.declared.database_command.DatabaseCommand.TheVariants.{Merge, Report, Lcov, Rank}
 use Rattle.command_line.specs.declared.database_option.DatabaseOption.{DatabaseOption}
 use Rattle.command_line.specs.declared.database_option.DatabaseOption.TheVariants.{Level, Metrics, ByInstance, Covered, Output}
 use Rattle.command_line.specs.declared.merge_words.MergeWords.{MergeWords}
@@ -58,6 +58,7 @@ abbrev pub command_text : DatabaseCommand → List ℕ
 command_text Merge = codes "merge"
 command_text Report = codes "report"
 command_text Lcov = codes "lcov"
+command_text Rank = codes "rank"
 
 -- the words are the command, items, and what is left
 pub record IsUpTo (command : DatabaseCommand) (words : List (List ℕ)) (items : List Item) (left : List (List ℕ)) : Type 0 where

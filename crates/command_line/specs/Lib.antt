@@ -17,3 +17,4 @@ pub mod Command
 pub mod GivenValues
 pub mod GivenWords
 pub mod LcovWords
+pub mod RankWords

@@ -5,10 +5,10 @@ ghost use Rattle.command_line.specs.ScoreOption.{takes_value};
 ghost use Rattle.command_line.specs.UsageFault.{HasScoreFault, HasUsageFault};
 ghost use Rattle.command_line.specs.WordsLeft.{left_words};
 
-use crate::database_words::{read_lcov, read_merge, read_report};
+use crate::database_words::{read_lcov, read_merge, read_rank, read_report};
 use crate::given_values::GivenValues;
 use crate::words_left::WordsLeft;
-use crate::{LcovWords, MergeWords, ReportWords, ScoreOption, ScoreWords, UsageFault};
+use crate::{LcovWords, MergeWords, RankWords, ReportWords, ScoreOption, ScoreWords, UsageFault};
 use cov_host::Words;
 
 /// A command with its values.
@@ -22,6 +22,8 @@ pub enum Command<'a> {
     Report(ReportWords<'a>),
     /// Writes a tracefile of lcov.
     Lcov(LcovWords<'a>),
+    /// Prints the order in which the tests of databases are worth running.
+    Rank(RankWords<'a>),
 }
 
 /// Reads the words that follow the name of the program. It takes no memory. The fault is the first one from
@@ -37,6 +39,7 @@ pub fn read_command<'a>(words: &'a Words) -> Result<Command<'a>, UsageFault<'a>>
         Some("merge") => read_merge(&mut left).map(Command::Merge),
         Some("report") => read_report(&mut left).map(Command::Report),
         Some("lcov") => read_lcov(&mut left).map(Command::Lcov),
+        Some("rank") => read_rank(&mut left).map(Command::Rank),
         Some(word) => Err(UsageFault::UnknownCommand(word)),
     }
 }

@@ -12,6 +12,8 @@ pub enum DatabaseCommand {
     Report,
     /// Writes a tracefile of lcov.
     Lcov,
+    /// Prints the order in which the tests of databases are worth running.
+    Rank,
 }
 
 impl DatabaseCommand {
@@ -36,6 +38,7 @@ impl DatabaseCommand {
             DatabaseCommand::Merge => option == DatabaseOption::Output,
             DatabaseCommand::Report => true,
             DatabaseCommand::Lcov => option == DatabaseOption::Output,
+            DatabaseCommand::Rank => false,
         }
     }
 
@@ -47,6 +50,7 @@ impl DatabaseCommand {
             DatabaseCommand::Merge => true,
             DatabaseCommand::Report => is_first,
             DatabaseCommand::Lcov => is_first,
+            DatabaseCommand::Rank => true,
         }
     }
 }

@@ -4,13 +4,16 @@ ghost use Rattle.command_line.specs.DatabaseOption.{takes_value};
 ghost use Rattle.command_line.specs.DatabaseWords.{IsMerge, IsReport, command_text, merge_values, report_values, value_words};
 ghost use Rattle.command_line.specs.GivenWords.{HasRead};
 ghost use Rattle.command_line.specs.LcovWords.{IsLcov, lcov_values};
+ghost use Rattle.command_line.specs.RankWords.{IsRank, rank_values};
 ghost use Rattle.command_line.specs.WordsLeft.{left_words};
-ghost use Rattle.command_line.specs.declared.database_command.DatabaseCommand.TheVariants.{Merge, Report, Lcov};
+ghost use Rattle.command_line.specs.declared.database_command.DatabaseCommand.TheVariants.{Merge, Report, Lcov, Rank};
 
 use crate::given_words::GivenWords;
 use crate::value_form::is_database_name;
 use crate::words_left::WordsLeft;
-use crate::{DatabaseCommand, DatabaseOption, LcovWords, MergeWords, ReportWords, UsageFault};
+use crate::{
+    DatabaseCommand, DatabaseOption, LcovWords, MergeWords, RankWords, ReportWords, UsageFault,
+};
 
 /// Reads the words that are left after `merge`.
 pub(crate) fn read_merge<'a>(left: &mut WordsLeft<'a>) -> Result<MergeWords<'a>, UsageFault<'a>>
@@ -44,6 +47,18 @@ pub(crate) fn read_lcov<'a>(left: &mut WordsLeft<'a>) -> Result<LcovWords<'a>, U
     let given = read_words(DatabaseCommand::Lcov, left)?;
     match given.lcov_words() {
         Ok(lcov) => Ok(lcov),
+        Err(word) => Err(UsageFault::Missing(word)),
+    }
+}
+
+/// Reads the words that are left after `rank`.
+pub(crate) fn read_rank<'a>(left: &mut WordsLeft<'a>) -> Result<RankWords<'a>, UsageFault<'a>>
+    ensures rank { IfOk result (λ rank. IsRank (codes "rank" ∷ left_words left.old) (rank_values rank)) }
+    ensures fault { IfErr result (λ fault. HasDatabaseFault Rank (codes "rank" ∷ left_words left.old) fault) }
+{
+    let given = read_words(DatabaseCommand::Rank, left)?;
+    match given.rank_words() {
+        Ok(rank) => Ok(rank),
         Err(word) => Err(UsageFault::Missing(word)),
     }
 }

@@ -1,10 +1,9 @@
 ghost use Rattle.std.specs.Prelude.{◌≡◌};
 ghost use Rattle.std.specs.List.{after_first, before_first};
-ghost use Rattle.command_line.specs.Define.{is_equals};
 ghost use Rattle.command_line.specs.DrawingWords.{drawing_of, drawing_values, is_drawing};
 ghost use Rattle.command_line.specs.MachineWords.{is_comma};
 
-use crate::value_form::is_module_name;
+use crate::value_form::{cut_at_equals, is_module_name};
 
 /// Two signals of a module, from whose case statements a state machine is drawn.
 #[derive(Clone, Copy)]
@@ -39,17 +38,6 @@ pub(crate) fn is_drawing(value: &str) -> bool
     let (of_module, rest) = cut_at_equals(value);
     let (current, next) = cut_at_comma(rest);
     is_module_name(of_module) && (is_module_name(current) && is_module_name(next))
-}
-
-/// What is before the first `=`, and what is after it.
-fn cut_at_equals(value: &str) -> (&str, &str)
-    ensures before { result.0.now ≡ before_first is_equals value.now }
-    ensures after { result.1.now ≡ after_first is_equals value.now }
-{
-    match value.split_once('=') {
-        Some(parts) => parts,
-        None => (value, ""),
-    }
 }
 
 /// What is before the first `,`, and what is after it.

@@ -1,16 +1,18 @@
 ghost use Rattle.std.specs.Prelude.{◌≡◌, if◌then◌else◌, ◌∷◌, Some, None, is_none, IfOk, IfErr};
 ghost use Rattle.std.specs.Option.{option_copied};
-ghost use Rattle.command_line.specs.declared.database_command.DatabaseCommand.TheVariants.{Merge, Report, Lcov};
+ghost use Rattle.command_line.specs.declared.database_command.DatabaseCommand.TheVariants.{Merge, Report, Lcov, Rank};
 ghost use Rattle.command_line.specs.declared.database_option.DatabaseOption.{DatabaseOption as Named};
 ghost use Rattle.command_line.specs.DatabaseFiles.{files_among};
 ghost use Rattle.command_line.specs.DatabaseOption.{is_same};
 ghost use Rattle.command_line.specs.GivenWords.{GivesMerge, GivesReport, IsMissing, value_of, files_from};
 ghost use Rattle.command_line.specs.LcovWords.{GivesLcov};
+ghost use Rattle.command_line.specs.RankWords.{GivesRank};
 ghost use Rattle.command_line.specs.WordsLeft.{left_words};
 
 use crate::words_left::WordsLeft;
 use crate::{
-    DatabaseFiles, DatabaseOption, LcovWords, MergeWords, ReportLevel, ReportMetrics, ReportWords,
+    DatabaseFiles, DatabaseOption, LcovWords, MergeWords, RankWords, ReportLevel, ReportMetrics,
+    ReportWords,
 };
 
 /// What was read so far of the words of a command that reads databases.
@@ -139,5 +141,19 @@ impl<'a> GivenWords<'a> {
             return Err("file");
         };
         Ok(LcovWords { output, file })
+    }
+
+    /// The values of a `rank` command, or the first that is missing.
+    pub(crate) fn rank_words(&self) -> Result<RankWords<'a>, &'static str>
+        ensures rank { IfOk result (λ rank. GivesRank self.now rank) }
+        ensures missing { IfErr result (λ word. IsMissing Rank self.now word.now) }
+    {
+        let Some(first) = self.first else {
+            return Err("file");
+        };
+        Ok(RankWords {
+            first,
+            others: self.others,
+        })
     }
 }

@@ -24,6 +24,7 @@ mod laws;
 mod lcov_words;
 mod merge_words;
 mod option_values;
+mod rank_words;
 mod report_level;
 mod report_metrics;
 mod report_words;
@@ -50,6 +51,7 @@ pub use laws::{
 };
 pub use lcov_words::LcovWords;
 pub use merge_words::MergeWords;
+pub use rank_words::RankWords;
 pub use report_level::ReportLevel;
 pub use report_metrics::ReportMetrics;
 pub use report_words::ReportWords;

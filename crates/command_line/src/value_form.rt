@@ -1,6 +1,7 @@
 ghost use Rattle.std.specs.Prelude.{◌≡◌};
-ghost use Rattle.std.specs.List.{list_any};
+ghost use Rattle.std.specs.List.{after_first, before_first, list_any};
 ghost use Rattle.cov_host.specs.Identifier.{is_identifier};
+ghost use Rattle.command_line.specs.Define.{is_equals};
 ghost use Rattle.command_line.specs.ValueForm.{is_white_space, is_path_part, is_instance_path, is_control, is_file_name};
 ghost use Rattle.command_line.specs.DatabaseOption.{is_database_name};
 
@@ -62,4 +63,15 @@ pub(crate) fn is_database_name(word: &str) -> bool
     ensures { result ≡ is_database_name word.now }
 {
     !word.starts_with('-') && is_file_name(word)
+}
+
+/// What is before the first `=`, and what is after it.
+pub(crate) fn cut_at_equals(value: &str) -> (&str, &str)
+    ensures before { result.0.now ≡ before_first is_equals value.now }
+    ensures after { result.1.now ≡ after_first is_equals value.now }
+{
+    match value.split_once('=') {
+        Some(parts) => parts,
+        None => (value, ""),
+    }
 }

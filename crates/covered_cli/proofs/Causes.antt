@@ -1,21 +1,23 @@
 -- Why a call of the program ends with its status.
 use Rattle.std.proofs.Common.{◌≡◌, ℕ, List, Option, None, Some, Ok, Err, sym, ap, refl, ◌∙◌, inl, inr}
 use Rattle.std.specs.Prelude.{Result, IfErr, OnOk, ◌↔◌}
-use Rattle.command_line.specs.Command.{AreWordsOf, CommandValues, IsCommand, score, merge, report, lcov, command_values}
+use Rattle.command_line.specs.Command.{AreWordsOf, CommandValues, IsCommand, score, merge, report, lcov, rank, command_values}
 use Rattle.command_line.specs.CommandWords.{IsScore, ScoreValues, score_values}
 use Rattle.command_line.specs.DatabaseWords.{IsMerge, IsReport, MergeValues, ReportValues, merge_values, report_values}
 use Rattle.command_line.specs.LcovWords.{IsLcov, LcovValues, lcov_values}
+use Rattle.command_line.specs.RankWords.{IsRank, RankValues, rank_values}
 use Rattle.command_line.specs.declared.command.Command.{Command}
-use Rattle.command_line.specs.declared.command.Command.TheVariants.{Score, Merge, Report, Lcov}
+use Rattle.command_line.specs.declared.command.Command.TheVariants.{Score, Merge, Report, Lcov, Rank}
 use Rattle.command_line.proofs.OneCommand.{one_of_all}
 use Rattle.command_line.proofs.Outcome.{command_without_fault}
 use Rattle.cov_host.specs.Outside.{Outside, Files, Told}
 use Rattle.database_commands.specs.Faults.{IsMergeFault}
+use Rattle.database_commands.specs.Ranking.{IsRankFault}
 use Rattle.database_commands.specs.Reporting.{IsReportFault, KeepsUnlessNamed, PrintsIfUnnamed}
 use Rattle.database_commands.specs.Tracing.{IsLcovFault}
 use Rattle.database_commands.specs.declared.fault.CommandFault.{CommandFault}
 use Rattle.database_commands.specs.declared.fault.CommandFault.TheVariants as database_fault
-use Rattle.covered_cli.specs.Covered.{HasContradiction, IsNoCommand, IsSomeCommand, KeepsUnnamed, PrintsReport, output_in}
+use Rattle.covered_cli.specs.Covered.{HasContradiction, IsNoCommand, IsSomeCommand, KeepsUnnamed, PrintsText, output_in}
 use Rattle.covered_cli.specs.Databases.{database_status}
 use Rattle.covered_cli.specs.Fault.{IsDatabaseFault, Stands, StandsIn, StandsInDatabases, StandsInWork, output_of, status_of}
 use Rattle.source_design.specs.declared.fault.SourceFault.{SourceFault}
@@ -80,7 +82,18 @@ stands_as_lcov words values before after is (Dump refusal) stands = absurd stand
 stands_as_lcov words values before after is (Contradiction found) stands = absurd stands
 stands_as_lcov words values before after is (FilesFault call file) stands = absurd stands
 stands_as_lcov words values before after is Memory stands = absurd stands
-stands_as_lcov words values before after is (Databases f) stands = inr (inr (values, is, stands))
+stands_as_lcov words values before after is (Databases f) stands = inr (inr (inl (values, is, stands)))
+
+stands_as_rank : (words : List (List ℕ)) (values : RankValues) (before after : Outside) → IsRank words values → (fault : Fault) → IsDatabaseFault (IsRankFault values before after) fault → Stands words before after fault
+stands_as_rank words values before after is (Usage usage) stands = absurd stands
+stands_as_rank words values before after is (Source f) stands = absurd stands
+stands_as_rank words values before after is (NoMachine name) stands = absurd stands
+stands_as_rank words values before after is (PointsFault p) stands = absurd stands
+stands_as_rank words values before after is (Dump refusal) stands = absurd stands
+stands_as_rank words values before after is (Contradiction found) stands = absurd stands
+stands_as_rank words values before after is (FilesFault call file) stands = absurd stands
+stands_as_rank words values before after is Memory stands = absurd stands
+stands_as_rank words values before after is (Databases f) stands = inr (inr (inr (values, is, stands)))
 
 -- what stands in the work of a command stands in the call of the program
 pub stands_in_call : (words : List (List ℕ)) (command : Command) (before after : Outside) → IsCommand words command → (fault : Fault) → StandsInWork command before after fault → Stands words before after fault
@@ -88,6 +101,7 @@ stands_in_call words (Score values) before after is fault stands = stands_as_sco
 stands_in_call words (Merge values) before after is fault stands = stands_as_merge words (merge_values values) before after is fault stands
 stands_in_call words (Report values) before after is fault stands = stands_as_report words (report_values values) before after is fault stands
 stands_in_call words (Lcov values) before after is fault stands = stands_as_lcov words (lcov_values values) before after is fault stands
+stands_in_call words (Rank values) before after is fault stands = stands_as_rank words (rank_values values) before after is fault stands
 
 -- the words of a command are one
 pub is_some_command : (words : List (List ℕ)) (command : Command) → IsCommand words command → IsSomeCommand words
@@ -99,6 +113,7 @@ same_output (Score values) = refl
 same_output (Merge values) = refl
 same_output (Report values) = refl
 same_output (Lcov values) = refl
+same_output (Rank values) = refl
 
 keeps_by : (words : List (List ℕ)) (values : CommandValues) (output : Option (List ℕ)) → AreWordsOf values words → output_in values ≡ output → (old new : Files) → KeepsUnlessNamed output old new → KeepsUnnamed words old new
 keeps_by words values None is names old new kept name unnamed = kept name
@@ -109,16 +124,17 @@ pub keeps_unnamed : (words : List (List ℕ)) (command : Command) (old new : Opt
 keeps_unnamed words command old new is kept =
     Told-map {R = KeepsUnlessNamed (output_of command)} {S = KeepsUnnamed words} old new (λ x y. keeps_by words (command_values command) (output_of command) is (same_output command) x y) kept
 
--- words that ask for no printed report print nothing
-pub prints_nothing : (words : List (List ℕ)) (command : Command) (before after : Outside) → IsCommand words command → PrintsIfUnnamed (output_of command) before after → (PrintsReport words → ⊥) → after.printed ≡ before.printed
+-- words that ask for no printed text print nothing
+pub prints_nothing : (words : List (List ℕ)) (command : Command) (before after : Outside) → IsCommand words command → PrintsIfUnnamed (output_of command) before after → (PrintsText words → ⊥) → after.printed ≡ before.printed
 prints_nothing words (Score values) before after is prints none = prints
 prints_nothing words (Merge values) before after is prints none = prints
 prints_nothing words (Report values) before after is prints none = go (report_values values).output refl prints
   where
     go : (output : Option (List ℕ)) → (report_values values).output ≡ output → PrintsIfUnnamed output before after → after.printed ≡ before.printed
-    go None same prints = absurd (none (report_values values, is, same))
+    go None same prints = absurd (none (inl (report_values values, is, same)))
     go (Some name) same prints = prints
 prints_nothing words (Lcov values) before after is prints none = prints
+prints_nothing words (Rank values) before after is prints none = absurd (none (inr (rank_values values, is)))
 
 -- the words of a command have no fault
 pub command_or_fault : (words : List (List ℕ)) → IsSomeCommand words → IsNoCommand words → ⊥
@@ -128,12 +144,14 @@ command_or_fault words command fault = command_without_fault words command.0 fau
 pub score_or_databases : (words : List (List ℕ)) (values : ScoreValues) (before after : Outside) (f : CommandFault) → IsScore words values → StandsInDatabases words before after f → ⊥
 score_or_databases words values before after f is (inl stands) = let e = one_of_all words (score values) (merge stands.0) is stands.1 in cc
 score_or_databases words values before after f is (inr (inl stands)) = let e = one_of_all words (score values) (report stands.0) is stands.1 in cc
-score_or_databases words values before after f is (inr (inr stands)) = let e = one_of_all words (score values) (lcov stands.0) is stands.1 in cc
+score_or_databases words values before after f is (inr (inr (inl stands))) = let e = one_of_all words (score values) (lcov stands.0) is stands.1 in cc
+score_or_databases words values before after f is (inr (inr (inr stands))) = let e = one_of_all words (score values) (rank stands.0) is stands.1 in cc
 
 databases_are_command : (words : List (List ℕ)) (before after : Outside) (f : CommandFault) → StandsInDatabases words before after f → IsSomeCommand words
 databases_are_command words before after f (inl stands) = (merge stands.0, stands.1)
 databases_are_command words before after f (inr (inl stands)) = (report stands.0, stands.1)
-databases_are_command words before after f (inr (inr stands)) = (lcov stands.0, stands.1)
+databases_are_command words before after f (inr (inr (inl stands))) = (lcov stands.0, stands.1)
+databases_are_command words before after f (inr (inr (inr stands))) = (rank stands.0, stands.1)
 
 -- no fault of a command over databases is one of usage
 no_usage : (f : CommandFault) → database_status f ≡ status.Usage → ⊥

@@ -3,18 +3,22 @@ use Rattle.std.proofs.Common.{◌≡◌, ◌⊎◌, ℕ, ◌≤◌, List, [], �
 use Rattle.std.proofs.lemmas.List.Elements.{Contains-append_right}
 use Rattle.std.specs.Global.{Global}
 use Rattle.std.specs.Prelude.{Contains, MatchOption}
-use Rattle.command_line.specs.Command.{AreWordsOf, CommandValues, score as of_score, merge as of_merge, report as of_report, lcov as of_lcov}
+use Rattle.command_line.specs.Command.{AreWordsOf, CommandValues, score as of_score, merge as of_merge, report as of_report, lcov as of_lcov, rank as of_rank}
 use Rattle.command_line.specs.CommandWords.{IsScore, ScoreValues}
-use Rattle.command_line.specs.DatabaseWords.{IsMerge, IsReport, MergeValues, ReportValues}
-use Rattle.command_line.specs.LcovWords.{IsLcov, LcovValues}
-use Rattle.command_line.proofs.OneCommand.{one_lcov, one_merge, one_of_all, one_report}
+use Rattle.command_line.specs.DatabaseWords.{MergeValues, ReportValues}
+use Rattle.command_line.specs.LcovWords.{LcovValues}
+use Rattle.command_line.specs.RankWords.{RankValues}
+use Rattle.command_line.proofs.OneCommand.{one_of_all}
 use Rattle.cov_host.specs.Outside.{Files as HostFiles, IsCounted, KeepsFiles, KeepsInput, KeepsOutput, Outside}
 use Rattle.database_commands.specs.Faults.{ComesTo, IsMergeFault, IsNoTable, IsReading, inputs_of}
+use Rattle.database_commands.specs.Complete.{IsGoodMerge, IsGoodReport}
+use Rattle.database_commands.specs.Ranking.{IsGoodRank, IsRankFault, IsReached, ranked_files}
 use Rattle.database_commands.specs.Reporting.{IsReportFault}
-use Rattle.database_commands.specs.Tracing.{IsLcovFault}
+use Rattle.database_commands.specs.Tracing.{IsGoodLcov, IsLcovFault}
 use Rattle.database_commands.specs.declared.fault.CommandFault.{CommandFault}
 use Rattle.database_commands.specs.declared.fault.CommandFault.TheVariants as database
 use Rattle.database_commands.proofs.Complete.{good_merge, good_report, refused_write}
+use Rattle.database_commands.proofs.Ranking.{good_rank}
 use Rattle.database_commands.proofs.Tracing.{good_lcov}
 use Rattle.whole_files.specs.Effects.{CountsUp, IsMissing}
 use Rattle.whole_files.specs.declared.call.Call.{Call}
@@ -60,39 +64,55 @@ early_status (Databases (database.DesignsDiffer file line first other)) early = 
 
 -- ---- good databases
 
+-- the databases of a command are good
+abbrev IsGoodFor : CommandValues → Outside → Type 0
+IsGoodFor (of_score values) before = ⊥
+IsGoodFor (of_merge values) before = IsGoodMerge values before
+IsGoodFor (of_report values) before = IsGoodReport values before
+IsGoodFor (of_lcov values) before = IsGoodLcov values before
+IsGoodFor (of_rank values) before = IsGoodRank values before
+
+-- a command over databases has the fault
+abbrev IsFaultFor : CommandValues → Outside → Outside → CommandFault → Type 0
+IsFaultFor (of_score values) before after f = ⊥
+IsFaultFor (of_merge values) before after f = IsMergeFault values before after f
+IsFaultFor (of_report values) before after f = IsReportFault values before after f
+IsFaultFor (of_lcov values) before after f = IsLcovFault values before after f
+IsFaultFor (of_rank values) before after f = IsRankFault values before after f
+
+good_command : (words : List (List ℕ)) (before : Outside) → HasGoodDatabases words before → (values : CommandValues) × AreWordsOf values words × IsGoodFor values before
+good_command words before (inl good) = (of_merge good.0, good.1, good.2)
+good_command words before (inr (inl good)) = (of_report good.0, good.1, good.2)
+good_command words before (inr (inr (inl good))) = (of_lcov good.0, good.1, good.2)
+good_command words before (inr (inr (inr good))) = (of_rank good.0, good.1, good.2)
+
+faulty_command : (words : List (List ℕ)) (before after : Outside) (f : CommandFault) → StandsInDatabases words before after f → (values : CommandValues) × AreWordsOf values words × IsFaultFor values before after f
+faulty_command words before after f (inl stands) = (of_merge stands.0, stands.1, stands.2)
+faulty_command words before after f (inr (inl stands)) = (of_report stands.0, stands.1, stands.2)
+faulty_command words before after f (inr (inr (inl stands))) = (of_lcov stands.0, stands.1, stands.2)
+faulty_command words before after f (inr (inr (inr stands))) = (of_rank stands.0, stands.1, stands.2)
+
 good_are_words : (words : List (List ℕ)) (before : Outside) → HasGoodDatabases words before → (values : CommandValues) × AreWordsOf values words
-good_are_words words before (inl good) = (of_merge good.0, good.1)
-good_are_words words before (inr (inl good)) = (of_report good.0, good.1)
-good_are_words words before (inr (inr good)) = (of_lcov good.0, good.1)
+good_are_words words before good = let command = good_command words before good in (command.0, command.1)
 
 good_or_score : (words : List (List ℕ)) (before : Outside) (values : ScoreValues) → HasGoodDatabases words before → IsScore words values → ⊥
-good_or_score words before values (inl good) is = let e = one_of_all words (of_merge good.0) (of_score values) good.1 is in cc
-good_or_score words before values (inr (inl good)) is = let e = one_of_all words (of_report good.0) (of_score values) good.1 is in cc
-good_or_score words before values (inr (inr good)) is = let e = one_of_all words (of_lcov good.0) (of_score values) good.1 is in cc
+good_or_score words before values good is =
+    let command = good_command words before good in
+    subst (λ values. IsGoodFor values before) (one_of_all words command.0 (of_score values) command.1 is) command.2
 
-merge_or_report : (words : List (List ℕ)) (merge : MergeValues) (report : ReportValues) → IsMerge words merge → IsReport words report → ⊥
-merge_or_report words merge report is_merge is_report = let e = one_of_all words (of_merge merge) (of_report report) is_merge is_report in cc
-
-merge_or_lcov : (words : List (List ℕ)) (merge : MergeValues) (lcov : LcovValues) → IsMerge words merge → IsLcov words lcov → ⊥
-merge_or_lcov words merge lcov is_merge is_lcov = let e = one_of_all words (of_merge merge) (of_lcov lcov) is_merge is_lcov in cc
-
-report_or_lcov : (words : List (List ℕ)) (report : ReportValues) (lcov : LcovValues) → IsReport words report → IsLcov words lcov → ⊥
-report_or_lcov words report lcov is_report is_lcov = let e = one_of_all words (of_report report) (of_lcov lcov) is_report is_lcov in cc
+good_fault_for : (alloc : Global) (values : CommandValues) (before after : Outside) → IsGoodFor values before → NoFaults before after → (f : CommandFault) → IsFaultFor values before after f → f ≡ database.Memory
+good_fault_for alloc (of_score values) before after good none f fault = absurd good
+good_fault_for alloc (of_merge values) before after good none f fault = good_merge alloc values before after good none f fault
+good_fault_for alloc (of_report values) before after good none f fault = good_report values before after good none f fault
+good_fault_for alloc (of_lcov values) before after good none f fault = good_lcov values before after good none f fault
+good_fault_for alloc (of_rank values) before after good none f fault = good_rank alloc values before after good none f fault
 
 -- of good databases no fault but want of memory stands
 good_fault : (alloc : Global) (words : List (List ℕ)) (before after : Outside) → NoFaults before after → HasGoodDatabases words before → (f : CommandFault) → StandsInDatabases words before after f → f ≡ database.Memory
-good_fault alloc words before after none (inl good) f (inl stands) =
-    good_merge alloc good.0 before after good.2 none f (subst (λ merge. IsMergeFault merge before after f) (one_merge words stands.0 good.0 stands.1 good.1) stands.2)
-good_fault alloc words before after none (inl good) f (inr (inl stands)) = absurd (merge_or_report words good.0 stands.0 good.1 stands.1)
-good_fault alloc words before after none (inl good) f (inr (inr stands)) = absurd (merge_or_lcov words good.0 stands.0 good.1 stands.1)
-good_fault alloc words before after none (inr (inl good)) f (inl stands) = absurd (merge_or_report words stands.0 good.0 stands.1 good.1)
-good_fault alloc words before after none (inr (inl good)) f (inr (inl stands)) =
-    good_report good.0 before after good.2 none f (subst (λ report. IsReportFault report before after f) (one_report words stands.0 good.0 stands.1 good.1) stands.2)
-good_fault alloc words before after none (inr (inl good)) f (inr (inr stands)) = absurd (report_or_lcov words good.0 stands.0 good.1 stands.1)
-good_fault alloc words before after none (inr (inr good)) f (inl stands) = absurd (merge_or_lcov words stands.0 good.0 stands.1 good.1)
-good_fault alloc words before after none (inr (inr good)) f (inr (inl stands)) = absurd (report_or_lcov words stands.0 good.0 stands.1 good.1)
-good_fault alloc words before after none (inr (inr good)) f (inr (inr stands)) =
-    good_lcov good.0 before after good.2 none f (subst (λ lcov. IsLcovFault lcov before after f) (one_lcov words stands.0 good.0 stands.1 good.1) stands.2)
+good_fault alloc words before after none good f stands =
+    let command = good_command words before good in
+    let faulty = faulty_command words before after f stands in
+    good_fault_for alloc command.0 before after command.2 none f (subst (λ values. IsFaultFor values before after f) (one_of_all words faulty.0 command.0 faulty.1 command.1) faulty.2)
 
 pub good_databases_end : (alloc : Global) (words : List (List ℕ)) (before middle after : Outside) → CountsUp before middle → CountsUp middle after → NoFaults before after → (fault : Fault) → Stands words before middle fault → HasGoodDatabases words before → EndsWith status.Done (status_of fault)
 good_databases_end alloc words before middle after first second none (Usage usage) stands good = absurd (command_or_fault words (good_are_words words before good) (usage, stands))
@@ -112,6 +132,10 @@ comes_within : (files : List (List ℕ)) (before : Outside) (file : List ℕ) �
 comes_within files before file comes =
     subst (λ files. Contains files file) (sym comes.files_are) (Contains-append_right comes.earlier (file ∷ comes.later) file (0, omega arith, refl))
 
+reached_within : (files : List (List ℕ)) (before : Outside) (file : List ℕ) → IsReached files before file → Contains files file
+reached_within files before file reached =
+    subst (λ files. Contains files file) (sym reached.files_are) (Contains-append_right reached.earlier (file ∷ reached.later) file (0, omega arith, refl))
+
 database_fault_cause : (words : List (List ℕ)) (before after : Outside) (f : CommandFault) → StandsInDatabases words before after f → database_status f ≡ status.Database → HasDatabaseCause words before
 database_fault_cause words before after (database.Files call file) stands is = absurd (cc)
 database_fault_cause words before after database.Print stands is = absurd (cc)
@@ -120,12 +144,16 @@ database_fault_cause words before after (database.NoDatabase file kind line) (in
     inl (merge, file.now, is_merge, comes_within (inputs_of merge) before file.now fault.0, inl (kind, line, fault.1))
 database_fault_cause words before after (database.NoDatabase file kind line) (inr (inl (report, is_report, fault))) is =
     inr (inl (report, is_report, (kind, line, subst (λ name. IsNoTable name before kind line) fault.0 fault.1)))
-database_fault_cause words before after (database.NoDatabase file kind line) (inr (inr (lcov, is_lcov, fault))) is =
-    inr (inr (lcov, is_lcov, (kind, line, subst (λ name. IsNoTable name before kind line) fault.0 fault.1)))
+database_fault_cause words before after (database.NoDatabase file kind line) (inr (inr (inl (lcov, is_lcov, fault)))) is =
+    inr (inr (inl (lcov, is_lcov, (kind, line, subst (λ name. IsNoTable name before kind line) fault.0 fault.1))))
+database_fault_cause words before after (database.NoDatabase file kind line) (inr (inr (inr (rank, is_rank, fault)))) is =
+    inr (inr (inr (rank, file.now, is_rank, reached_within (ranked_files rank) before file.now fault.0, inl (kind, line, fault.1))))
 database_fault_cause words before after (database.DesignsDiffer file line first other) (inl (merge, is_merge, fault)) is =
     inl (merge, file.now, is_merge, comes_within (inputs_of merge) before file.now fault.0, inr (line, first, other, fault.1))
 database_fault_cause words before after (database.DesignsDiffer file line first other) (inr (inl (report, is_report, fault))) is = absurd fault
-database_fault_cause words before after (database.DesignsDiffer file line first other) (inr (inr (lcov, is_lcov, fault))) is = absurd fault
+database_fault_cause words before after (database.DesignsDiffer file line first other) (inr (inr (inl (lcov, is_lcov, fault)))) is = absurd fault
+database_fault_cause words before after (database.DesignsDiffer file line first other) (inr (inr (inr (rank, is_rank, fault)))) is =
+    inr (inr (inr (rank, file.now, is_rank, comes_within (ranked_files rank) before file.now fault.1, inr (line, first, other, fault.2))))
 
 points_no_database : (p : PointFault) → points_status p ≡ status.Database → ⊥
 points_no_database point_fault.NoMemory same = cc
@@ -207,12 +235,15 @@ databases_files_cause words before after (database.Files call file) (inl (merge,
 databases_files_cause words before after (database.Files call file) (inr (inl (report, is_report, inl fault))) is =
     reading_call words before after call file.now fault.0 (of_report report, is_report, (0, omega arith, sym fault.1)) fault.2
 databases_files_cause words before after (database.Files call file) (inr (inl (report, is_report, inr fault))) is = inl (refused_write before after call file.now fault.0 fault.2)
-databases_files_cause words before after (database.Files call file) (inr (inr (lcov, is_lcov, inl fault))) is =
+databases_files_cause words before after (database.Files call file) (inr (inr (inl (lcov, is_lcov, inl fault)))) is =
     reading_call words before after call file.now fault.0 (of_lcov lcov, is_lcov, (0, omega arith, sym fault.1)) fault.2
-databases_files_cause words before after (database.Files call file) (inr (inr (lcov, is_lcov, inr fault))) is = inl (refused_write before after call file.now fault.0 fault.2)
+databases_files_cause words before after (database.Files call file) (inr (inr (inl (lcov, is_lcov, inr fault)))) is = inl (refused_write before after call file.now fault.0 fault.2)
+databases_files_cause words before after (database.Files call file) (inr (inr (inr (rank, is_rank, fault)))) is =
+    reading_call words before after call file.now fault.0 (of_rank rank, is_rank, reached_within (ranked_files rank) before file.now fault.1) fault.2
 databases_files_cause words before after database.Print (inl (merge, is_merge, fault)) is = absurd fault
 databases_files_cause words before after database.Print (inr (inl (report, is_report, fault))) is = inl fault.1
-databases_files_cause words before after database.Print (inr (inr (lcov, is_lcov, fault))) is = absurd fault
+databases_files_cause words before after database.Print (inr (inr (inl (lcov, is_lcov, fault)))) is = absurd fault
+databases_files_cause words before after database.Print (inr (inr (inr (rank, is_rank, fault)))) is = inl fault.0
 databases_files_cause words before after database.Memory stands is = absurd (cc)
 databases_files_cause words before after (database.NoDatabase file kind line) stands is = absurd (cc)
 databases_files_cause words before after (database.DesignsDiffer file line first other) stands is = absurd (cc)
@@ -286,10 +317,18 @@ module _ (before middle after : Outside) (first : CountsUp before middle) (secon
   lcov_fault_later lcov (database.NoDatabase file kind line) fault = fault
   lcov_fault_later lcov (database.DesignsDiffer file line one other) fault = absurd fault
 
+  rank_fault_later : (rank : RankValues) (f : CommandFault) → IsRankFault rank before middle f → IsRankFault rank before after f
+  rank_fault_later rank (database.Files call file) fault = (fault.0, fault.1, call_later call file.now fault.2)
+  rank_fault_later rank database.Print fault = (counted_later fault.0, fault.1)
+  rank_fault_later rank database.Memory fault = tt
+  rank_fault_later rank (database.NoDatabase file kind line) fault = fault
+  rank_fault_later rank (database.DesignsDiffer file line one other) fault = fault
+
   databases_stand_later : (words : List (List ℕ)) (f : CommandFault) → StandsInDatabases words before middle f → StandsInDatabases words before after f
   databases_stand_later words f (inl (merge, is, fault)) = inl (merge, is, merge_fault_later merge f fault)
   databases_stand_later words f (inr (inl (report, is, fault))) = inr (inl (report, is, report_fault_later report f fault))
-  databases_stand_later words f (inr (inr (lcov, is, fault))) = inr (inr (lcov, is, lcov_fault_later lcov f fault))
+  databases_stand_later words f (inr (inr (inl (lcov, is, fault)))) = inr (inr (inl (lcov, is, lcov_fault_later lcov f fault)))
+  databases_stand_later words f (inr (inr (inr (rank, is, fault)))) = inr (inr (inr (rank, is, rank_fault_later rank f fault)))
 
   pub stands_later : (words : List (List ℕ)) (fault : Fault) → Stands words before middle fault → Stands words before after fault
   stands_later words (Usage usage) stands = stands

@@ -1,15 +1,17 @@
 -- What a call of the program leaves outside, and why it ends with a status above 0.
 use Rattle.std.specs.Prelude.{◌≡◌, ◌⊎◌, ℕ, List, [], ◌∷◌, Contains, Option, Some, None, MatchOption}
-use Rattle.command_line.specs.Command.{AreWordsOf, CommandValues, score, merge, report, lcov}
+use Rattle.command_line.specs.Command.{AreWordsOf, CommandValues, score, merge, report, lcov, rank}
 use Rattle.command_line.specs.CommandWords.{IsScore, ScoreValues}
 use Rattle.command_line.specs.DatabaseWords.{IsMerge, IsReport, MergeValues, ReportValues}
 use Rattle.command_line.specs.LcovWords.{IsLcov, LcovValues}
+use Rattle.command_line.specs.RankWords.{IsRank, RankValues}
 use Rattle.command_line.specs.UsageFault.{HasUsageFault}
 use Rattle.command_line.specs.declared.usage_fault.UsageFault.{UsageFault}
 use Rattle.cov_host.specs.Outside.{Outside, Files, IsCounted}
 use Rattle.coverage_db.specs.declared.fault.DbKind.{DbKind}
 use Rattle.database_commands.specs.Complete.{IsGoodMerge, IsGoodReport}
 use Rattle.database_commands.specs.Faults.{IsNoTable, IsOtherDesign, inputs_of}
+use Rattle.database_commands.specs.Ranking.{IsGoodRank, ranked_files}
 use Rattle.database_commands.specs.Reporting.{LeavesAll, LeavesFront}
 use Rattle.database_commands.specs.Tracing.{IsGoodLcov}
 use Rattle.source_design.specs.Reading.{LacksAt}
@@ -37,6 +39,7 @@ output_in (score values) = Some values.output
 output_in (merge values) = Some values.output
 output_in (report values) = values.output
 output_in (lcov values) = Some values.output
+output_in (rank values) = None
 
 -- the files that a command reads
 abbrev pub inputs_in : CommandValues → List (List ℕ)
@@ -44,6 +47,7 @@ inputs_in (score values) = values.dump ∷ values.sources
 inputs_in (merge values) = inputs_of values
 inputs_in (report values) = values.file ∷ []
 inputs_in (lcov values) = values.file ∷ []
+inputs_in (rank values) = ranked_files values
 
 -- the words name the file for the output
 abbrev pub IsOutput : List (List ℕ) → List ℕ → Type 0
@@ -60,6 +64,14 @@ KeepsUnnamed words old new = (name : List ℕ) → (IsOutput words name → ⊥)
 -- the words ask for a report that is printed
 abbrev pub PrintsReport : List (List ℕ) → Type 0
 PrintsReport words = (values : ReportValues) × IsReport words values × (values.output ≡ None)
+
+-- the words ask for a ranking
+abbrev pub PrintsRanking : List (List ℕ) → Type 0
+PrintsRanking words = (values : RankValues) × IsRank words values
+
+-- the words ask for a text that is printed
+abbrev pub PrintsText : List (List ℕ) → Type 0
+PrintsText words = PrintsReport words ⊎ PrintsRanking words
 
 -- the status is one that comes before the output is opened
 abbrev pub HasEarlyStatus : Status → Type 0
@@ -90,23 +102,25 @@ HasNoTable before name = (kind : DbKind) × (line : Option ℕ) × IsNoTable nam
 abbrev pub AreOfTwoDesigns : Outside → List ℕ → List ℕ → Type 0
 AreOfTwoDesigns before first name = (line : ℕ) × (a : List ℕ) × (b : List ℕ) × IsOtherDesign first name before line a b
 
--- the words merge a file that is no table's, or one of another design than the first, or report or trace one that is no table's
+-- the words merge or rank a file that is no table's, or one of another design than the first, or report or trace one that is no table's
 abbrev pub HasDatabaseCause : List (List ℕ) → Outside → Type 0
 HasDatabaseCause words before =
     ((values : MergeValues) × (name : List ℕ) × IsMerge words values × Contains (inputs_of values) name × (HasNoTable before name ⊎ AreOfTwoDesigns before values.first name))
     ⊎ ((values : ReportValues) × IsReport words values × HasNoTable before values.file)
     ⊎ ((values : LcovValues) × IsLcov words values × HasNoTable before values.file)
+    ⊎ ((values : RankValues) × (name : List ℕ) × IsRank words values × Contains (ranked_files values) name × (HasNoTable before name ⊎ AreOfTwoDesigns before values.first name))
 
 -- the words are a score, and no run of the design of its sources shows its dump
 abbrev pub HasContradiction : List (List ℕ) → Outside → Type 0
 HasContradiction words before = (values : ScoreValues) × IsScore words values × (found : Contradiction) × IsContradictedDump values before found
 
--- the words merge files that have tables of one design, or report or trace a file that has a table
+-- the words merge or rank files that have tables of one design, or report or trace a file that has a table
 abbrev pub HasGoodDatabases : List (List ℕ) → Outside → Type 0
 HasGoodDatabases words before =
     ((values : MergeValues) × IsMerge words values × IsGoodMerge values before)
     ⊎ ((values : ReportValues) × IsReport words values × IsGoodReport values before)
     ⊎ ((values : LcovValues) × IsLcov words values × IsGoodLcov values before)
+    ⊎ ((values : RankValues) × IsRank words values × IsGoodRank values before)
 
 -- all files, and what was printed, are as before; or the output, or what was printed, has a front of the text that the words ask for
 abbrev pub Leaves : List (List ℕ) → Outside → Outside → Type 0

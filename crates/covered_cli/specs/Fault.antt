@@ -1,14 +1,16 @@
 -- Why a command ends with a status above 0, and the line that says so.
-use Rattle.std.specs.Prelude.{◌≡◌, ◌⊎◌, ℕ, List, ◌++◌, codes, Option, Some}
+use Rattle.std.specs.Prelude.{◌≡◌, ◌⊎◌, ℕ, List, ◌++◌, codes, Option, Some, None}
 use Rattle.std.specs.Option.{option_copied}
 use Rattle.command_line.specs.CommandWords.{HaveForms, IsScore, ScoreValues, score_values}
 use Rattle.command_line.specs.DatabaseWords.{IsMerge, IsReport, MergeValues, ReportValues, merge_values, report_values}
 use Rattle.command_line.specs.LcovWords.{IsLcov, LcovValues, lcov_values}
+use Rattle.command_line.specs.RankWords.{IsRank, RankValues, rank_values}
 use Rattle.command_line.specs.UsageFault.{HasUsageFault, usage_text}
 use Rattle.command_line.specs.declared.command.Command.{Command}
-use Rattle.command_line.specs.declared.command.Command.TheVariants.{Score, Merge, Report, Lcov}
+use Rattle.command_line.specs.declared.command.Command.TheVariants.{Score, Merge, Report, Lcov, Rank}
 use Rattle.cov_host.specs.Outside.{Outside}
 use Rattle.database_commands.specs.Faults.{IsEarly as IsEarlyDatabase, IsMergeFault}
+use Rattle.database_commands.specs.Ranking.{IsRankFault}
 use Rattle.database_commands.specs.Reporting.{IsReportFault}
 use Rattle.database_commands.specs.Tracing.{IsLcovFault}
 use Rattle.database_commands.specs.declared.fault.CommandFault.{CommandFault}
@@ -93,6 +95,7 @@ output_of (Score score) = Some score.output.now
 output_of (Merge merge) = Some merge.output.now
 output_of (Report report) = option_copied report.output
 output_of (Lcov lcov) = Some lcov.output.now
+output_of (Rank rank) = None
 
 -- the values of a score have their forms
 abbrev pub HasForms : Command → Type 0
@@ -100,6 +103,7 @@ HasForms (Score score) = HaveForms (score_values score)
 HasForms (Merge merge) = Unit {0}
 HasForms (Report report) = Unit {0}
 HasForms (Lcov lcov) = Unit {0}
+HasForms (Rank rank) = Unit {0}
 
 -- the fault is one of a command over databases, of which this holds
 abbrev pub IsDatabaseFault : (CommandFault → Type 0) → Fault → Type 0
@@ -112,6 +116,7 @@ StandsInWork (Score score) before after fault = StandsIn (score_values score) be
 StandsInWork (Merge merge) before after fault = IsDatabaseFault (IsMergeFault (merge_values merge) before after) fault
 StandsInWork (Report report) before after fault = IsDatabaseFault (IsReportFault (report_values report) before after) fault
 StandsInWork (Lcov lcov) before after fault = IsDatabaseFault (IsLcovFault (lcov_values lcov) before after) fault
+StandsInWork (Rank rank) before after fault = IsDatabaseFault (IsRankFault (rank_values rank) before after) fault
 
 -- the words are a command over databases that has the fault
 abbrev pub StandsInDatabases : List (List ℕ) → Outside → Outside → CommandFault → Type 0
@@ -119,6 +124,7 @@ StandsInDatabases words before after f =
     ((merge : MergeValues) × IsMerge words merge × IsMergeFault merge before after f)
     ⊎ ((report : ReportValues) × IsReport words report × IsReportFault report before after f)
     ⊎ ((lcov : LcovValues) × IsLcov words lcov × IsLcovFault lcov before after f)
+    ⊎ ((rank : RankValues) × IsRank words rank × IsRankFault rank before after f)
 
 -- a call of the program with these words has the fault between two outsides
 abbrev pub Stands : List (List ℕ) → Outside → Outside → Fault → Type 0

@@ -2,12 +2,13 @@
 use Rattle.std.specs.Prelude.{◌≡◌, ℕ, false, List, map}
 use Rattle.std.specs.List.{list_any}
 use Rattle.command_line.specs.CommandWords.{IsScore, ScoreValues}
-use Rattle.command_line.specs.Command.{AreWordsOf, CommandValues, score as of_score, merge as of_merge, report as of_report, lcov as of_lcov, command_values}
+use Rattle.command_line.specs.Command.{AreWordsOf, CommandValues, score as of_score, merge as of_merge, report as of_report, lcov as of_lcov, rank as of_rank, command_values}
 use Rattle.command_line.specs.declared.command.Command.{Command}
 use Rattle.cov_host.specs.Outside.{Outside, HasFile, Told}
 use Rattle.coverage_db.specs.Text.{text_of}
 use Rattle.coverage_db.specs.declared.db.Db.{Db}
 use Rattle.database_commands.specs.Merging.{IsMergedIn, IsMergedText}
+use Rattle.database_commands.specs.Ranking.{IsRankedIn, IsRankedText}
 use Rattle.database_commands.specs.Reporting.{IsReportedIn, IsReportedText}
 use Rattle.database_commands.specs.Tracing.{IsTracedIn, IsTracedText}
 use Rattle.design_model.specs.Design.{path_of}
@@ -152,6 +153,7 @@ IsDoneBy (of_score values) before after = IsDoneIn values before after
 IsDoneBy (of_merge values) before after = IsMergedIn values before after
 IsDoneBy (of_report values) before after = IsReportedIn values before after
 IsDoneBy (of_lcov values) before after = IsTracedIn values before after
+IsDoneBy (of_rank values) before after = IsRankedIn values before after
 
 -- the text is the one that a command with these values asks for
 abbrev pub IsTextOf : CommandValues → Outside → List ℕ → Type 0
@@ -159,6 +161,7 @@ IsTextOf (of_score values) before text = IsScoredText values before text
 IsTextOf (of_merge values) before text = IsMergedText values before text
 IsTextOf (of_report values) before text = IsReportedText values before text
 IsTextOf (of_lcov values) before text = IsTracedText values before text
+IsTextOf (of_rank values) before text = IsRankedText values before text
 
 -- what the command asks for was done
 abbrev pub IsDoneWork : Command → Outside → Outside → Type 0

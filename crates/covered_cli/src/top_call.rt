@@ -4,7 +4,7 @@ ghost use Rattle.cov_host.specs.Outside.{KeepsFiles, KeepsInput, KeepsOutput, To
 ghost use Rattle.database_commands.specs.Reporting.{KeepsUnlessNamed, LeavesFront, PrintsIfUnnamed};
 ghost use Rattle.whole_files.specs.Effects.{CountsUp};
 ghost use Rattle.covered_cli.specs.Complete.{EndsWith, HasBadDump, HasBadSource, HasUnboundDump, IsCommandWith, IsGoodScore, LacksPoints, NoFaults, RefusesBinding, RefusesDump, RefusesPoints};
-ghost use Rattle.covered_cli.specs.Covered.{HasContradiction, HasDatabaseCause, HasEarlyStatus, HasFilesCause, HasGoodDatabases, IsNoCommand, IsSomeCommand, KeepsUnnamed, Leaves, PrintsReport, WarnsFault};
+ghost use Rattle.covered_cli.specs.Covered.{HasContradiction, HasDatabaseCause, HasEarlyStatus, HasFilesCause, HasGoodDatabases, IsNoCommand, IsSomeCommand, KeepsUnnamed, Leaves, PrintsText, WarnsFault};
 ghost use Rattle.covered_cli.specs.Effects.{WarnsLine};
 ghost use Rattle.covered_cli.specs.Fault.{HasForms, IsEarly, Stands, StandsInWork, line_of, output_of, status_of};
 ghost use Rattle.covered_cli.specs.Headline.{IsAccepted, IsListed, IsReasonedScore, IsSoundScore};
@@ -16,15 +16,15 @@ use crate::message::warn_of;
 use crate::score::run_score;
 use command_line::{Command, read_command};
 use cov_host::{Host, Words};
-use database_commands::{run_lcov, run_merge, run_report};
+use database_commands::{run_lcov, run_merge, run_rank, run_report};
 use std::alloc::Global;
 
 /// Does all that the program does with the words that follow its name. A status above 0 is warned of in one line,
 /// and designs that differ in two more.
 pub fn covered<H: Host>(alloc: Global, words: &Words, host: &mut H) -> Status
-    // Nothing is printed except a report for which the words name no file, and no file changes except the one that the
-    // words name for the output.
-    ensures printed { (PrintsReport words.now → ⊥) → (H.outside host.new).printed ≡ (H.outside host.old).printed }
+    // Nothing is printed except a ranking, and a report for which the words name no file, and no file changes except the
+    // one that the words name for the output.
+    ensures printed { (PrintsText words.now → ⊥) → (H.outside host.new).printed ≡ (H.outside host.old).printed }
     ensures others { Told (KeepsUnnamed words.now) (H.outside host.old).files (H.outside host.new).files }
 
     // With status 0 nothing is warned. A status from 1 to 4, and 7, leaves every file, and nothing is printed.
@@ -34,7 +34,7 @@ pub fn covered<H: Host>(alloc: Global, words: &Words, host: &mut H) -> Status
 
     // With status 0 the output holds what the command asks for: of a score the table of the sources and the dump; of a merge the
     // merge of the tables of the files; of a report its text, which was printed where no file is named; of `lcov` the
-    // tracefile of the table of the file.
+    // tracefile of the table of the file. Of `rank` the text of the ranking of the tables of the files was printed.
     ensures done { result ≡ Status.Done → IsDone words.now (H.outside host.old) (H.outside host.new) }
 
     // The headline: of a score with status 0, the dump fits the design of the sources; the table lists each coverage point of the
@@ -98,7 +98,7 @@ fn run<'a, H: Host>(alloc: Global, words: &'a Words, host: &mut H) -> Result<(),
     ensures early { IfErr result (λ fault. IsEarly fault → KeepsFiles (H.outside host.old) (H.outside host.new)) }
     ensures unprinted { IfErr result (λ fault. IsEarly fault → (H.outside host.new).printed ≡ (H.outside host.old).printed) }
     ensures others { Told (KeepsUnnamed words.now) (H.outside host.old).files (H.outside host.new).files }
-    ensures printed { (PrintsReport words.now → ⊥) → (H.outside host.new).printed ≡ (H.outside host.old).printed }
+    ensures printed { (PrintsText words.now → ⊥) → (H.outside host.new).printed ≡ (H.outside host.old).printed }
     ensures warned { (H.outside host.new).warned ≡ (H.outside host.old).warned }
     ensures left { OnErr result (Leaves words.now (H.outside host.old) (H.outside host.new)) }
     ensures counts { CountsUp (H.outside host.old) (H.outside host.new) }
@@ -137,6 +137,10 @@ fn run_command<'a, H: Host>(
             Err(fault) => Err(Fault::Databases(fault)),
         },
         Command::Lcov(words) => match run_lcov(alloc, words, host) {
+            Ok(()) => Ok(()),
+            Err(fault) => Err(Fault::Databases(fault)),
+        },
+        Command::Rank(words) => match run_rank(alloc, words, host) {
             Ok(()) => Ok(()),
             Err(fault) => Err(Fault::Databases(fault)),
         },

@@ -171,7 +171,7 @@ const ASSIGNMENTS: &[Case] = &[
     Case { words: SCORE_INV, files: &[("inv.v", INV), ("D", INV_LACKING)], status: Status::Dump, output: NONE, printed: "", warned: "covered: dump: bind 3 NoBaseline inv.y\n" },
 ];
 
-/// Merges, reports and tracefiles.
+/// Merges, reports, tracefiles and rankings.
 #[rattlefmt::skip]
 const DATABASES: &[Case] = &[
     Case { words: &["merge", "-o", "m.db", "t2.db", "t1.db"], files: TABLES, status: Status::Done, output: ("m.db", MERGED), printed: "", warned: "" },
@@ -180,6 +180,10 @@ const DATABASES: &[Case] = &[
     Case { words: &["lcov", "-o", "x.info", "cells.db"], files: &[("cells.db", CELLS), ("x.info", "old")], status: Status::Done, output: ("x.info", TRACED), printed: "", warned: "" },
     Case { words: &["lcov", "cells.db", "-o", "x.info"], files: &[("cells.db", "covered-db 1\ntop\n"), ("x.info", "old")], status: Status::Database, output: ("x.info", "old"), printed: "", warned: "covered: database: cells.db: 1 BadLine 2\n" },
     Case { words: &["lcov", "-o", "x.info"], files: &[("x.info", "old")], status: Status::Usage, output: ("x.info", "old"), printed: "", warned: "covered: usage: missing file\n" },
+    Case { words: &["rank", "t1.db", "t2.db"], files: TABLES, status: Status::Done, output: NONE, printed: "covered rank 1\nuse 4 4 t1.db\nuse 1 5 t2.db\nhit 5 of 11\n", warned: "" },
+    Case { words: &["rank", "t1.db", "t5.db"], files: TABLES, status: Status::Database, output: NONE, printed: "", warned: "covered: database: t5.db: 4 DesignsDiffer 2\n< top ff\n> top ffr\n" },
+    Case { words: &["rank", "t1.db", "t5.db", "none.db"], files: TABLES, status: Status::Files, output: NONE, printed: "", warned: "covered: files: open_read none.db\n" },
+    Case { words: &["rank"], files: TABLES, status: Status::Usage, output: NONE, printed: "", warned: "covered: usage: missing file\n" },
 ];
 
 /// The words of a case.

@@ -51,7 +51,7 @@ table_there before name db kind line has no_table =
     no_table.none db has.table (subst (IsTextOf db) same has.is_text) (subst (λ text. length text ≤ 2147483648) same has.short)
 
 -- what a file holds is the table that it has
-same_table : (alloc : Global) (before : Outside) (name : List ℕ) (db other : Db) → HasTable before name db → HoldsTable before name other → db ≡ other
+pub same_table : (alloc : Global) (before : Outside) (name : List ℕ) (db other : Db) → HasTable before name db → HoldsTable before name other → db ≡ other
 same_table alloc before name db other has holds =
     let same = one_text_at before.files name has.text holds.text has.is holds.is in
     one_table alloc db other holds.text has.table holds.table (subst (IsTextOf db) same has.is_text) holds.is_text
@@ -61,13 +61,13 @@ same_behind [] xs ys same = same
 same_behind (line ∷ front) xs ys same = same_behind front xs ys (cc)
 
 -- tables of one design differ nowhere
-one_design : (first file : List ℕ) (before : Outside) (line : ℕ) (a b : List ℕ) (is : IsOtherDesign first file before line a b) → SameDesign is.first_table is.other_table → ⊥
+pub one_design : (first file : List ℕ) (before : Outside) (line : ℕ) (a b : List ℕ) (is : IsOtherDesign first file before line a b) → SameDesign is.first_table is.other_table → ⊥
 one_design first file before line a b is same =
     let behind = same_behind is.differ.before (a ∷ is.differ.left_others) (b ∷ is.differ.right_others) (sym is.differ.left_is ∙ same ∙ is.differ.right_is) in
     is.differ.differ (cc)
 
 -- the file to which a list comes has a table of the design
-comes_at : (before : Outside) (first : Db) (earlier later : List (List ℕ)) (file : List ℕ) → HaveTablesOf before first (earlier ++ file ∷ later) → (db : Db) × HasTable before file db × SameDesign first db
+pub comes_at : (before : Outside) (first : Db) (earlier later : List (List ℕ)) (file : List ℕ) → HaveTablesOf before first (earlier ++ file ∷ later) → (db : Db) × HasTable before file db × SameDesign first db
 comes_at before first [] later file have = have.0
 comes_at before first (name ∷ earlier) later file have = comes_at before first earlier later file have.1
 

@@ -5,3 +5,4 @@ pub mod Complete
 pub mod AnyOrder
 pub mod Reporting
 pub mod Tracing
+pub mod Ranking

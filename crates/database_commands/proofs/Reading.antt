@@ -1,15 +1,62 @@
 -- What was read of files that have not changed since.
-use Rattle.std.proofs.Common.{◌≡◌, ℕ, ◌≤◌, List, [], ◌∷◌, ◌++◌, Option, None, Some, sym, ◌∙◌, inl, inr}
-use Rattle.std.specs.Prelude.{IfSome, MatchOption}
-use Rattle.cov_host.specs.Outside.{Files, IsCounted, KeepsFiles, Outside, SameFiles, Told}
+use Rattle.std.proofs.Common.{◌≡◌, ℕ, ◌<◌, ◌≤◌, List, [], ◌∷◌, ◌++◌, length, Option, None, Some, Err, refl, sym, subst, ◌∙◌, inl, inr, arith}
+use Rattle.std.specs.Prelude.{IfSome, IsSomeAnd}
+use Rattle.std.proofs.lemmas.Bool.{cases_lt}
+use Rattle.cov_host.specs.Outside.{Files, KeepsFiles, Outside, SameFiles, Told}
+use Rattle.coverage_db.specs.Faults.{IsFault, IsTheTable}
+use Rattle.coverage_db.specs.Table.{IsTable}
+use Rattle.coverage_db.specs.Text.{IsTextOf}
 use Rattle.coverage_db.specs.declared.db.Db.{Db}
+use Rattle.coverage_db.specs.declared.fault.DbFault.TheVariants.{At}
 use Rattle.coverage_db.specs.declared.fault.DbKind.{DbKind}
+use Rattle.coverage_db.specs.declared.fault.DbKind.TheVariants.{DbTooLong}
 use Rattle.whole_files.specs.Effects.{CountsUp, OnlyReads}
+use Rattle.whole_files.specs.Files.{IsContent}
 use Rattle.whole_files.specs.declared.call.Call.{Call}
 use Rattle.whole_files.specs.Refusals.{IsRefused}
 use Rattle.whole_files.proofs.Refusals.{refused_earlier}
 use Rattle.database_commands.specs.Faults.{IsNoTable}
-use Rattle.database_commands.specs.Files.{HoldTables, HoldsTable}
+use Rattle.database_commands.specs.Files.{HoldTables, HoldsTable, IsFile}
+
+-- what a call of reading says of the bytes
+abbrev pub AreBytesOf : Outside → List ℕ → List ℕ → Type 0
+AreBytesOf outside name bytes = IfSome outside.files (λ files. IsSomeAnd (files name) (IsContent 2147483648 bytes))
+
+-- the text of a file of which these bytes were read
+text_at : (name bytes : List ℕ) (told : Option Files) → IfSome told (λ files. IsSomeAnd (files name) (IsContent 2147483648 bytes)) → (text : List ℕ) × IfSome told (λ files. files name ≡ Some text) × IsContent 2147483648 bytes text
+text_at name bytes None read = let content : IsContent 2147483648 bytes bytes = record { whole = λ short. refl; longer = λ long. long } in (bytes, tt, content)
+text_at name bytes (Some files) read = go (files name) refl read
+  where
+    go : (found : Option (List ℕ)) → files name ≡ found → IsSomeAnd found (IsContent 2147483648 bytes) → (text : List ℕ) × (files name ≡ Some text) × IsContent 2147483648 bytes text
+    go None none content = absurd content
+    go (Some text) some content = (text, some, content)
+
+text_of_bytes : (before : Outside) (name bytes : List ℕ) → AreBytesOf before name bytes → length bytes ≤ 2147483648 → IsFile before name bytes
+text_of_bytes before name bytes read short =
+    let t = text_at name bytes before.files read in
+    let same : bytes ≡ t.0 = elim (cases_lt 2147483648 (length t.0)) [ inl long ↦ absurd (omega (arith, t.1.1.longer long, short)) | inr within ↦ t.1.1.whole (omega (arith, within)) ] in
+    subst (IsFile before name) (sym same) t.1.0
+
+-- a table was read of the file
+pub table_read : (before : Outside) (name bytes : List ℕ) (db : Db) → AreBytesOf before name bytes → length bytes ≤ 2147483648 → IsTable db → IsTextOf db bytes → HoldsTable before name db
+table_read before name bytes db read short table is_text = record { table = table; text = bytes; is_text = is_text; is = text_of_bytes before name bytes read short; short = short }
+
+-- the text of the file has a fault
+pub fault_read : (before : Outside) (name bytes : List ℕ) (kind : DbKind) (line : Option ℕ) → AreBytesOf before name bytes → length bytes ≤ 2147483648
+    → ((db : Db) → IsTable db → IsTextOf db bytes → length bytes ≤ 2147483648 → IsTheTable db (Err (At kind line))) → IsFault bytes (At kind line) → IsNoTable name before kind line
+fault_read before name bytes kind line read short only fault = record {
+  text = bytes;
+  is = text_of_bytes before name bytes read short;
+  none = λ db table is_text within. absurd (let bad = only db table is_text within in cc);
+  fault = fault;
+}
+
+-- the text of the file is too long
+pub too_long : (before : Outside) (name bytes : List ℕ) → AreBytesOf before name bytes → 2147483648 < length bytes → IsNoTable name before DbTooLong None
+too_long before name bytes read long =
+    let t = text_at name bytes before.files read in
+    let longer : 2147483648 < length t.0 = elim (cases_lt 2147483648 (length t.0)) [ inl more ↦ more | inr within ↦ subst (λ (b : List ℕ). 2147483648 < length b) (t.1.1.whole (omega (arith, within))) long ] in
+    record { text = t.0; is = t.1.0; none = λ db table is_text short. absurd (omega (arith, longer, short)); fault = longer }
 
 file_as_before : (name text : List ℕ) (before after : Option Files) → Told SameFiles before after → IfSome after (λ files. files name ≡ Some text) → IfSome before (λ files. files name ≡ Some text)
 file_as_before name text None None same is = tt

@@ -4,3 +4,4 @@ pub mod Merging
 pub mod Complete
 pub mod Reporting
 pub mod Tracing
+pub mod Ranking

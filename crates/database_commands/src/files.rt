@@ -14,6 +14,7 @@ use whole_files::{FileFault, read_file, write_file};
 const LONGEST: usize = 2_147_483_648;
 
 /// Reads the table of a file.
+#[tactic(auto, using(crate::proofs::Reading::table_read, crate::proofs::Reading::fault_read, crate::proofs::Reading::too_long))]
 pub(crate) fn read_table<'a, H: Host>(
     alloc: Global,
     host: &mut H,

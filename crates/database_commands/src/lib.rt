@@ -1,5 +1,6 @@
 //! The commands that read databases, over any host: [`run_merge`] joins databases of one design, [`run_report`] shows
-//! one, and [`run_lcov`] writes one as a tracefile of lcov.
+//! one, [`run_lcov`] writes one as a tracefile of lcov, and [`run_rank`] prints the order in which the tests of several
+//! are worth running.
 //!
 //! With `Ok` exactly the text of the definition was written to the output or printed. Each fault has its cause, and
 //! one that comes before the output is opened leaves every file as it was. Good files without a failed call give `Ok`
@@ -12,10 +13,12 @@ mod files;
 mod laws;
 mod lcov;
 mod merge;
+mod rank;
 mod report;
 
 pub use fault::CommandFault;
 pub use laws::any_order;
 pub use lcov::run_lcov;
 pub use merge::run_merge;
+pub use rank::run_rank;
 pub use report::run_report;

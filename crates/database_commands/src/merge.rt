@@ -61,7 +61,12 @@ fn merge_tables<'a, H: Host>(
 }
 
 /// The merge of the table of the files before this one with the table of this file.
-fn join<'a>(alloc: Global, table: Db, other: &Db, file: &'a str) -> Result<Db, CommandFault<'a>>
+pub(crate) fn join<'a>(
+    alloc: Global,
+    table: Db,
+    other: &Db,
+    file: &'a str,
+) -> Result<Db, CommandFault<'a>>
     requires table { IsTable table }
     requires other { IsTable other.now }
     ensures table { IfOk result IsTable }

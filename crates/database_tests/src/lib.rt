@@ -8,6 +8,8 @@ mod database_cases;
 #[cfg(test)]
 mod databases;
 #[cfg(test)]
+mod rankings;
+#[cfg(test)]
 mod report_cases;
 #[cfg(test)]
 mod reports;

@@ -5,10 +5,7 @@
 pub(crate) const FAULTS: &[(&[&str], &str)] = &[
     (&[], "no command"),
     (&[""], "unknown command "),
-    (&["exclude", "-o", "e.db", "-point", "t ff clk - 10", "t1.db"], "unknown command exclude"),
     (&["-t", "ff", "score"], "unknown command -t"),
-    (&["rank", "t1.db"], "unknown command rank"),
-    (&["restore", "-o", "e.db", "-point", "t ff clk - 10", "t1.db"], "unknown command restore"),
     (&["selfrun", "1", "2"], "unknown command selfrun"),
     (&["frob"], "unknown command frob"),
     (&["score", "-G", "ctl=st,st"], "unknown word -G"),
@@ -93,6 +90,16 @@ pub(crate) const LCOV_FAULTS: &[(&[&str], &str)] = &[
     (&["lcov", "-o", "", "t1.db"], "bad value "),
     (&["lcov", "-o", "x", "-d", "v", "t1.db"], "unknown word -d"),
     (&["lcov", "-o", "x", "a.db", "b.db"], "unknown word b.db"),
+];
+
+/// Words of `rank` that are no command, with the first fault.
+#[rattlefmt::skip]
+pub(crate) const RANK_FAULTS: &[(&[&str], &str)] = &[
+    (&["rank"], "missing file"),
+    (&["rank", "-o", "x", "t1.db"], "unknown word -o"),
+    (&["rank", "a.db", "-d"], "unknown word -d"),
+    (&["rank", "-point", "t ff clk - 10", "a.db"], "unknown word -point"),
+    (&["rank", "a.db", "", "b.db"], "unknown word "),
 ];
 
 /// Words of state machines and of the late habit that are no command, and the fault that is reported.

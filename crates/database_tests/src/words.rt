@@ -1,8 +1,8 @@
 //! Each fault as it is reported, and a whole command of each kind.
-use crate::usage_cases::{FAULTS, LCOV_FAULTS, MACHINE_FAULTS};
+use crate::usage_cases::{FAULTS, LCOV_FAULTS, MACHINE_FAULTS, RANK_FAULTS};
 use command_line::{
-    Command, GivenDefine, GivenDefines, LcovWords, MergeWords, ReportLevel, ReportMetrics,
-    ReportWords, ScoreWords, SourceFiles, UsageFault, read_command,
+    Command, GivenDefine, GivenDefines, LcovWords, MergeWords, RankWords, ReportLevel,
+    ReportMetrics, ReportWords, ScoreWords, SourceFiles, UsageFault, read_command,
 };
 use cov_host::{NoMemory, Words};
 use std::alloc::Global;
@@ -64,6 +64,13 @@ fn the_first_fault_of_lcov_is_reported(rt: HostRuntime) {
     }
 }
 
+#[test]
+fn the_first_fault_of_rank_is_reported(rt: HostRuntime) {
+    for (texts, text) in RANK_FAULTS {
+        assert!(rt; is_refused(rt.alloc(), texts, text), "{text}");
+    }
+}
+
 /// The values of a `score` command.
 fn score_of(words: &Words) -> Option<ScoreWords<'_>> {
     match read_command(words) {
@@ -92,6 +99,14 @@ pub(crate) fn report_of(words: &Words) -> Option<ReportWords<'_>> {
 fn lcov_of(words: &Words) -> Option<LcovWords<'_>> {
     match read_command(words) {
         Ok(Command::Lcov(lcov)) => Some(lcov),
+        _ => None,
+    }
+}
+
+/// The values of a `rank` command.
+pub(crate) fn rank_of(words: &Words) -> Option<RankWords<'_>> {
+    match read_command(words) {
+        Ok(Command::Rank(rank)) => Some(rank),
         _ => None,
     }
 }
@@ -273,4 +288,23 @@ fn the_words_of_a_tracefile(rt: HostRuntime) {
     for texts in TRACEFILES {
         assert!(rt; reads_lcov(rt.alloc(), texts));
     }
+}
+
+/// Whether these are the databases of a ranking: one twice, and another between.
+fn ranks_three(rank: RankWords<'_>) -> bool {
+    let mut others = rank.others;
+    rank.first == "b.db"
+        && others.next_file() == Some("a.db")
+        && others.next_file() == Some("b.db")
+        && others.next_file().is_none()
+}
+
+#[test]
+fn the_words_of_a_ranking(rt: HostRuntime) {
+    assert!(rt;
+        match words_of(rt.alloc(), &["rank", "b.db", "a.db", "b.db"]) {
+            Ok(words) => rank_of(&words).is_some_and(ranks_three),
+            Err(_) => false,
+        }
+    );
 }

@@ -77,18 +77,18 @@ module _ (replay : DumpReplay) (habit : Habit) (design : Design) (points : Point
       let some = last_rounds_law (design_view design) lawful (bound_dump design said instance) in
       let one = table some.0 some.1 in
       record {
-    text = text;
-    dump = said;
-    is = file;
-    is_dump = record { b = scored.b; ends = scored.ends; vars = sym scored.vars_are; steps = refl };
-    score = record {
-      bound = scored_bound;
-      forced = λ rounds by_last. (final rounds by_last).forced;
-      table = one.table;
-      head = one.head;
-      listed = one.listed;
-      sound = λ rounds by_last. (table rounds by_last).sound;
-      reasoned = λ rounds by_last. (table rounds by_last).reasoned;
-      windows = one.windows;
-    };
-  }
+        text = text;
+        dump = said;
+        is = file;
+        is_dump = record { b = scored.b; ends = scored.ends; vars = sym scored.vars_are; steps = refl };
+        score = record {
+          bound = scored_bound;
+          forced = λ rounds by_last. (final rounds by_last).forced;
+          table = one.table;
+          head = one.head;
+          listed = one.listed;
+          sound = λ rounds by_last. (table rounds by_last).sound;
+          reasoned = λ rounds by_last. (table rounds by_last).reasoned;
+          windows = one.windows;
+        };
+      }

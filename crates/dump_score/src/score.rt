@@ -90,7 +90,5 @@ fn score_file<H: Host>(
     score_end(&mut opened.body, &mut replay)?;
     let windows = replay.windows(alloc)?;
     let marks = replay.finish();
-    Ok(score_table(
-        alloc, design, points, &marks, windows, sources,
-    )?)
+    Ok(score_table(alloc, design, points, &marks, windows, sources)?)
 }

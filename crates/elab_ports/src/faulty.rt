@@ -23,7 +23,7 @@ use verilog_tree::{Expr, Module};
 
 /// Whether there is no declaration of a port, or one with a fault.
 fn is_faulty_port(port: Option<&Declaration>) -> bool
-    ensures { result ≡ spec.is_faulty_port (option_map (λ d. declaration_view d.now) port) }
+    ensures { result ≡ spec.is_faulty_port (option_map (λ d. declaration_view d.now) port.entry) }
 {
     match port {
         Some(port) => !is_sound_port(port),
@@ -40,7 +40,7 @@ fn check_faulty_value<'a>(
     value: &'a Expr,
     tally: &mut Tally<'a>,
 )
-    ensures { tally.new ≡ after_faults tally.old (spec.value_faults (binding_of scope.now) (option_map (λ d. declaration_view d.now) port) (name_view label.entry) (expr_view value.now)) }
+    ensures { tally.new ≡ after_faults tally.old (spec.value_faults (binding_of scope.now) (option_map (λ d. declaration_view d.now) port.entry) (name_view label.entry) (expr_view value.now)) }
 {
     match port {
         Some(port) if port.direction.is_some() => {

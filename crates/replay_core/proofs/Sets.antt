@@ -1,12 +1,12 @@
 -- What was found to be early is no part of the other sets.
-use Rattle.std.proofs.Common.{◌≡◌, ◌∙◌, ⊎_elim, ℕ, ◌<◌, ◌≤◌, Bool, true, List, Option, Some, None, ap, arith, cond, get_or, refl, sym, subst}
-use Rattle.std.specs.Prelude.{is_some}
+use Rattle.std.proofs.Common.{◌≡◌, ◌∙◌, ⊎_elim, ℕ, ◌<◌, ◌≤◌, Bool, true, false, List, Option, Some, None, ap, arith, cond, get_or, refl, sym, subst}
+use Rattle.std.specs.Prelude.{is_some, slice_index_or}
 use Rattle.std.specs.List.{Contains}
 use Rattle.std.proofs.lemmas.Bool.{and_parts, false≢true, or_cases}
 use Rattle.body_store.specs.declared.store.Store.{Store}
 use Rattle.chosen_early.specs.Shared.{IsSameButEarly}
 use Rattle.cover_marks.specs.declared.marks.Marks.{Marks}
-use Rattle.design_model.specs.Design.{Design}
+use Rattle.design_model.specs.Design.{Design, signal_at}
 use Rattle.early_sets.specs.Has.{is_in}
 use Rattle.early_sets.specs.Rounds.{round_at, writer_at}
 use Rattle.early_sets.specs.WakeState.{WakeState, is_told}
@@ -34,7 +34,7 @@ sets_of_step d codes w of writers derived numbers noted = record {
     first x told = subst (λ n. n ≤ w.tables.things) (sym (ap (λ b. cond b 0 (get_or w.rounds x 0)) told)) (omega arith)
 
     told : (x : ℕ) → x < w.tables.things → is_told w x ≡ true → has_code codes x ≡ true
-    told x l e = sym (flags_are codes x) ∙ (and_parts _ _ (sym (of.told x l) ∙ e)).1
+    told x l e = sym (flags_are codes x) ∙ (and_parts (signal_at d x).input (slice_index_or (flags_of codes) x false) (sym (of.told x l) ∙ e)).1
 
     by : (x : ℕ) → x < w.tables.things → (o : Option ℕ) → writer_at w x ≡ o → is_some o ≡ true → has_code codes x ≡ true
     by x l None same some = absurd (false≢true some)

@@ -79,7 +79,7 @@ module _ (f : ℕ → ℕ) (round : ℕ → ℕ) where
       go false rest = sum_by-cons f p (x ∷ xs)
 
   sum_puts : (ps done : List ℕ) → sum_by f (put_in_rounds round ps done) ≡ sum_by f ps + sum_by f done
-  sum_puts [] done = refl
+  sum_puts [] done = let none : sum_by f [] ≡ 0 = refl in omega (arith, none)
   sum_puts (p ∷ ps) done =
       let rest = sum_puts ps (put_in_round round p done) in
       let one = sum_put p done in

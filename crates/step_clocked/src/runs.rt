@@ -97,16 +97,7 @@ pub fn run_clocked<L: Ledger>(
     list.fitting();
     begin_runs(store);
     run_in_turn(
-        list,
-        by_round,
-        later,
-        ran,
-        sets,
-        store,
-        given,
-        pieces,
-        notes,
-        steps,
+        list, by_round, later, ran, sets, store, given, pieces, notes, steps,
     );
     make_updates(store);
 }

@@ -12,9 +12,7 @@
 
 ghost use Rattle.step_parts.specs.Laws.{BegunLaw, ListedLaw, NotedLaw, SeenLaw, StartLaw, TouchedLaw};
 
-pub use step_changes::{
-    Piece, SignalChange, StepValues, Store, find_moves, known_signal,
-};
+pub use step_changes::{Piece, SignalChange, StepValues, Store, find_moves, known_signal};
 
 /// Where the Clocked have run, the dump's values are put in and what may not move stays, the parts are those with which the first
 /// Assign or Comb runs.

@@ -5,7 +5,7 @@ use Rattle.covered_cli.proofs.Complete.{bad_dump_ends, bad_dump_not_done, bad_so
 use Rattle.covered_cli.proofs.Databases.{database_cause, early_status, files_cause, good_databases_end, stands_later}
 use Rattle.covered_cli.proofs.Leaving.{all_later, left_later}
 use Rattle.covered_cli.proofs.Lines.{WarnsLine-since}
-use Rattle.covered_cli.proofs.Untouched.{all_else, no_report}
+use Rattle.covered_cli.proofs.Untouched.{all_else, no_text}
 use Rattle.covered_cli.proofs.top_call.covered.Goals as goal
 
 pub returns-in-Ok-clause-usage : goal.returns-in-Ok-clause-usage
@@ -109,4 +109,4 @@ returns-in-Ok-clause-untouched g c is score is_score =
     let before = g.H.Host.outside c.args.host.now in
     let after = g.H.Host.outside c.run.new.host in
     let done = done_by c.args.words.now before after c.in-Ok.ensures.done score is_score in
-    all_else score.output done.text before after done.written (c.run.ensures.printed (no_report c.args.words.now score is_score)) c.run.ensures.warned
+    all_else score.output done.text before after done.written (c.run.ensures.printed (no_text c.args.words.now score is_score)) c.run.ensures.warned

@@ -8,3 +8,6 @@ returns-in-Err-run_report-clause-left g c = rw c.in-Report.is c.in-Err-run_repor
 
 pub returns-in-Err-run_lcov-clause-left : goal.returns-in-Err-run_lcov-clause-left
 returns-in-Err-run_lcov-clause-left g c = rw c.in-Lcov.is c.in-Err-run_lcov.ensures.left
+
+pub returns-in-Err-run_rank-clause-left : goal.returns-in-Err-run_rank-clause-left
+returns-in-Err-run_rank-clause-left g c = rw c.in-Rank.is c.in-Err-run_rank.ensures.left

@@ -46,7 +46,7 @@ loop-process-preserved-then-is_some c =
     let fresh = not_has p before (λ j. old.apart p (subst (In p) (sym listed) (inl refl)) j) in
     let round = round_is w p c.round.result clean c.round.ensures in
     let put : c.put.new.self.pairs ≡ with_process p (round_of w p) c.loop-process.by_round.pairs =
-        c.put.ensures.pairs ∙ ap (λ b. cond b (with_process p c.round.result c.loop-process.by_round.pairs) c.loop-process.by_round.pairs) (c.put.ensures.there ∙ ap not fresh) ∙ ap (λ n. with_process p n c.loop-process.by_round.pairs) round in
+    c.put.ensures.pairs ∙ ap (λ b. cond b (with_process p c.round.result c.loop-process.by_round.pairs) c.loop-process.by_round.pairs) (c.put.ensures.there ∙ ap not fresh) ∙ ap (λ n. with_process p n c.loop-process.by_round.pairs) round in
     let named : map (λ (q : ℕ × ℕ). q.0) c.put.new.self.pairs ≡ put_in_round (round_of w) p before = ap (map (λ (q : ℕ × ℕ). q.0)) put ∙ named_with (round_of w) p c.loop-process.by_round.pairs old.ranked in
     record {
       count = c.take.ensures.count ∙ old.count;

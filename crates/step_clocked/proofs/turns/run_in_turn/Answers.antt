@@ -133,9 +133,11 @@ pub returns-clause-chosen : goal.returns-clause-chosen
 returns-clause-chosen g c =
     let w = state_of c.args.sets.now in
     let listed = map (λ (q : ℕ × ℕ). q.0) c.args.list.now.pairs in
-    let r = c.run_clean_ones.ensures.chosen in
-    (r.0, chosen_all w c.args.given.now.habit (clean_in_rounds w listed) listed r.0 (λ p s i trigger. order_in (round_of w) p (filter (runs_clean w) listed) (filter_in (runs_clean w) p listed i (ap is_some trigger)))
-    (subst (λ ps. AreChosenOf w c.args.given.now.habit ps r.0) c.put_by_round.ensures.clean r.1))
+    let r = c.run_clean_ones.ensures.chosen in (
+      r.0,
+      chosen_all w c.args.given.now.habit (clean_in_rounds w listed) listed r.0 (λ p s i trigger. order_in (round_of w) p (filter (runs_clean w) listed) (filter_in (runs_clean w) p listed i (ap is_some trigger)))
+          (subst (λ ps. AreChosenOf w c.args.given.now.habit ps r.0) c.put_by_round.ensures.clean r.1),
+    )
 
 pub returns-clause-step : goal.returns-clause-step
 returns-clause-step g c = λ st is of at.
