@@ -319,6 +319,10 @@ class BlockProcess(Process):
     def targets(self):
         return united(self.masks(False), self.masks(True))
 
+    def most_named(self, signal):
+        """How often targets name a signal on the path on which they do most often."""
+        return self.body.most_named(self.scope, signal)
+
     def execute(self, state):
         self.body.execute(self.scope, state)
 

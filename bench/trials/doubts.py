@@ -59,7 +59,7 @@ class Clear:
 
     def step(self, old, new):
         """Finds what is clear after a step from what is clear before it."""
-        self.wakes[new.time] = wakes_of(self.flat, old.values, new.values, self.is_late)
+        self.wakes[new.time] = wakes_of(self.flat, old.values, new.values, self.bound, self.is_late)
         changed = self.changed[old.time] | {it for it in self.bound if old.values[it] != new.values[it]}
         kept = self.bound.union(*(self.register_values(process, old, new) for process in self.clocked))
         same = changed == self.changed[old.time] and kept == self.kept[old.time] and not self.flat.memories

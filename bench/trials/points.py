@@ -99,7 +99,13 @@ def points_of(flat):
 
 def head_of(flat, sources, count):
     """The lines of a database before its points."""
-    lines = ["covered-db 1", f"top {flat.top.module.name}"]
+    lines = ["covered-db 2", f"top {flat.top.module.name}"]
     lines += [f"source {number} {name}" for number, name in enumerate(sources, 1)]
     lines += [f"instance {it.path} {it.module.name}" for it in sorted(flat.instances, key=lambda it: it.path)]
     return [*lines, f"points {count}"]
+
+
+def tail_of(times):
+    """The lines of a database after its points: its window, which a dump of these listed times has if they are two or more."""
+    windows = [f"window {times[0]} {times[-1]}"] if len(times) > 1 else []
+    return [f"windows {len(windows)}", *windows, "end"]

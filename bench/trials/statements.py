@@ -104,6 +104,10 @@ class Statement:
         """The terms directly in it, each with the width and sign of its context."""
         return [terms.alone(term, scope) for term in self.texts()]
 
+    def most_named(self, scope, signal):
+        """How often targets name a signal on the path on which they do most often."""
+        return 0
+
 
 class Block(Statement):
     """`begin .. end`."""
@@ -113,6 +117,9 @@ class Block(Statement):
 
     def inner(self):
         return self.statements
+
+    def most_named(self, scope, signal):
+        return sum(statement.most_named(scope, signal) for statement in self.statements)
 
     def execute(self, scope, state):
         for statement in self.statements:
@@ -158,6 +165,9 @@ class If(Statement):
     def inner(self):
         return [self.yes] + ([self.no] if self.no else [])
 
+    def most_named(self, scope, signal):
+        return max(statement.most_named(scope, signal) for statement in self.inner())
+
     def texts(self):
         return [self.test]
 
@@ -198,6 +208,9 @@ class Case(Statement):
 
     def inner(self):
         return [arm.body for arm in self.arms]
+
+    def most_named(self, scope, signal):
+        return max((arm.body.most_named(scope, signal) for arm in self.arms), default=0)
 
     def texts(self):
         return [self.selector] + [label for arm in self.arms for label in arm.labels]
@@ -275,6 +288,9 @@ class For(Statement):
                                    for turn in range(self.first, self.end, self.step)]
         return scope.answers[self]
 
+    def most_named(self, scope, signal):
+        return sum(self.body.most_named(turn, signal) for turn in self.turns(scope))
+
     def copies(self, scope):
         yield self, scope
         for turn in self.turns(scope):
@@ -308,6 +324,9 @@ class Set(Statement):
 
     def evaluated(self, scope):
         return [*index_terms(self.target, scope), right_side(self.target, self.value, scope)]
+
+    def most_named(self, scope, signal):
+        return sum(scope.find(leaf.name()) is signal for leaf in leaves(self.target))
 
     def execute(self, scope, state):
         state.reached(self)

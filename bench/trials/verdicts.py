@@ -2,7 +2,7 @@
 import re
 from collections import Counter
 
-from .points import head_of, points_of
+from .points import head_of, points_of, tail_of
 
 UNDETERMINED = re.compile(r"\? (\d+) (\S+)$")
 
@@ -12,10 +12,10 @@ def is_drawn(address):
     return address.startswith("f ") and address.split()[3][0].isdigit()
 
 
-def read_verdicts(text, head, points):
+def read_verdicts(text, head, points, tail):
     """The verdict of each point in order, and what is wrong with the form of the database."""
     lines = text.split("\n")
-    want = [*head, *(point.address for point in points), "end", ""]
+    want = [*head, *(point.address for point in points), *tail, ""]
     addresses = [line.partition(" = ")[0] if line[:2] in ("l ", "c ", "t ", "f ", "m ") else line for line in lines]
     pairs = enumerate(zip(want, addresses), 1)
     faults = [f"line {number} is `{got}` instead of `{it}`" for number, (it, got) in pairs if it != got]
@@ -29,13 +29,13 @@ class Comparison:
 
     def __init__(self, flat, sources, runs, doubts):
         self.doubts, self.points = doubts, points_of(flat)
-        self.head = head_of(flat, sources, len(self.points))
+        self.head, self.tail = head_of(flat, sources, len(self.points)), tail_of(runs[0].dump.times)
         self.hits = [run.hits() for run in runs]
         self.named = {it.full_name: it for it in flat.signals + flat.memories}
         self.counts, self.verdicts = Counter(), []
 
     def faults(self, text):
-        verdicts, found = read_verdicts(text, self.head, self.points)
+        verdicts, found = read_verdicts(text, self.head, self.points, self.tail)
         self.verdicts = verdicts
         if found:
             return found

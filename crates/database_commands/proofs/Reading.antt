@@ -34,8 +34,8 @@ text_at name bytes (Some files) read = go (files name) refl read
 text_of_bytes : (before : Outside) (name bytes : List ℕ) → AreBytesOf before name bytes → length bytes ≤ 2147483648 → IsFile before name bytes
 text_of_bytes before name bytes read short =
     let t = text_at name bytes before.files read in
-    let same : bytes ≡ t.0 = elim (cases_lt 2147483648 (length t.0)) [ inl long ↦ absurd (omega (arith, t.1.1.longer long, short)) | inr within ↦ t.1.1.whole (omega (arith, within)) ] in
-    subst (IsFile before name) (sym same) t.1.0
+    let same : bytes ≡ t.0 = elim (cases_lt 2147483648 (length t.0)) [ inl long ↦ absurd (omega (arith, t.2.longer long, short)) | inr within ↦ t.2.whole (omega (arith, within)) ] in
+    subst (IsFile before name) (sym same) t.1
 
 -- a table was read of the file
 pub table_read : (before : Outside) (name bytes : List ℕ) (db : Db) → AreBytesOf before name bytes → length bytes ≤ 2147483648 → IsTable db → IsTextOf db bytes → HoldsTable before name db
@@ -55,8 +55,8 @@ fault_read before name bytes kind line read short only fault = record {
 pub too_long : (before : Outside) (name bytes : List ℕ) → AreBytesOf before name bytes → 2147483648 < length bytes → IsNoTable name before DbTooLong None
 too_long before name bytes read long =
     let t = text_at name bytes before.files read in
-    let longer : 2147483648 < length t.0 = elim (cases_lt 2147483648 (length t.0)) [ inl more ↦ more | inr within ↦ subst (λ (b : List ℕ). 2147483648 < length b) (t.1.1.whole (omega (arith, within))) long ] in
-    record { text = t.0; is = t.1.0; none = λ db table is_text short. absurd (omega (arith, longer, short)); fault = longer }
+    let longer : 2147483648 < length t.0 = elim (cases_lt 2147483648 (length t.0)) [ inl more ↦ more | inr within ↦ subst (λ (b : List ℕ). 2147483648 < length b) (t.2.whole (omega (arith, within))) long ] in
+    record { text = t.0; is = t.1; none = λ db table is_text short. absurd (omega (arith, longer, short)); fault = longer }
 
 file_as_before : (name text : List ℕ) (before after : Option Files) → Told SameFiles before after → IfSome after (λ files. files name ≡ Some text) → IfSome before (λ files. files name ≡ Some text)
 file_as_before name text None None same is = tt

@@ -114,7 +114,7 @@ pub text_of-requires : goal.text_of-requires
 text_of-requires g c =
     let here = subst (λ ps. AreAllPoints (design_view c.in_ok-design.field-0.design) c.draw_machines.new.states ps) (sym c.deref.ensures) c.in_ok-points.ensures.points in
     let scored = c.in_ok-db.ensures.scored c.draw_machines.new.states here in
-    scored.score.table.table
+    scored.score.table
 
 pub returns-clause-done : goal.returns-clause-done
 returns-clause-done g c =

@@ -5,7 +5,7 @@ use Rattle.covered_cli.proofs.Complete.{bad_dump_ends, bad_dump_not_done, bad_so
 use Rattle.covered_cli.proofs.Databases.{database_cause, early_status, files_cause, good_databases_end, stands_later}
 use Rattle.covered_cli.proofs.Leaving.{all_later, left_later}
 use Rattle.covered_cli.proofs.Lines.{WarnsLine-since}
-use Rattle.covered_cli.proofs.Untouched.{all_else, no_text}
+use Rattle.covered_cli.proofs.Untouched.{all_else, fault_not_done, no_text}
 use Rattle.covered_cli.proofs.top_call.covered.Goals as goal
 
 pub returns-in-Ok-clause-usage : goal.returns-in-Ok-clause-usage
@@ -110,3 +110,18 @@ returns-in-Ok-clause-untouched g c is score is_score =
     let after = g.H.Host.outside c.run.new.host in
     let done = done_by c.args.words.now before after c.in-Ok.ensures.done score is_score in
     all_else score.output done.text before after done.written (c.run.ensures.printed (no_text c.args.words.now score is_score)) c.run.ensures.warned
+
+pub returns-in-Err-clause-accepted : goal.returns-in-Err-clause-accepted
+returns-in-Err-clause-accepted g c is = absurd (fault_not_done c.in-Err.fault (rw c.tell.ensures.status at is))
+
+pub returns-in-Err-clause-listed : goal.returns-in-Err-clause-listed
+returns-in-Err-clause-listed g c is = absurd (fault_not_done c.in-Err.fault (rw c.tell.ensures.status at is))
+
+pub returns-in-Err-clause-sound : goal.returns-in-Err-clause-sound
+returns-in-Err-clause-sound g c is = absurd (fault_not_done c.in-Err.fault (rw c.tell.ensures.status at is))
+
+pub returns-in-Err-clause-reasoned : goal.returns-in-Err-clause-reasoned
+returns-in-Err-clause-reasoned g c is = absurd (fault_not_done c.in-Err.fault (rw c.tell.ensures.status at is))
+
+pub returns-in-Err-clause-untouched : goal.returns-in-Err-clause-untouched
+returns-in-Err-clause-untouched g c is = absurd (fault_not_done c.in-Err.fault (rw c.tell.ensures.status at is))

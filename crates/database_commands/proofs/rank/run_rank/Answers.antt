@@ -5,7 +5,7 @@ use Rattle.command_line.specs.RankWords.{rank_values}
 use Rattle.cov_host.specs.Outside.{Appends, Told}
 use Rattle.test_ranking.specs.Print.{ranking_text}
 use Rattle.database_commands.specs.Ranking.{IsRankedText, ranked_files}
-use Rattle.database_commands.proofs.Ranking.{good_rank, print_fault, ranking_of_sets, ranking_of_text, sets_long}
+use Rattle.database_commands.proofs.Ranking.{good_rank, print_fault, ranking_of_text, sets_long}
 use Rattle.database_commands.proofs.Reporting.{OnErr-intro, gives_since, leaves_all, leaves_front}
 use Rattle.database_commands.proofs.rank.run_rank.Goals as goal
 

@@ -2,6 +2,7 @@ use Rattle.std.proofs.lemmas.Result.{err_from_is_err_and}
 use Rattle.dump_replay.specs.replay_core.wake_laws.Laws.{habit_of}
 use Rattle.design_model.proofs.FiniteRounds.{last_rounds_law}
 use Rattle.design_model.specs.RoundLaws.{read_by}
+use Rattle.design_model.specs.View.{design_view}
 use Rattle.dump_replay.specs.shown_dumps.Shown.{bound_dump}
 use Rattle.whole_files.proofs.EffectLemmas.{OnlyReads-trans}
 use Rattle.dump_score.proofs.FileLemmas.{header_refuses, nothing_read}
