@@ -2,7 +2,7 @@
 use Rattle.std.proofs.Common.{◌≡◌, inl, inr, ℕ, List, Option, None, Some, refl, sym, ap, subst, ◌∙◌}
 use Rattle.std.specs.Prelude.{IfSome, IsSome, IsSomeAnd, MatchOption}
 use Rattle.command_line.proofs.OneCommand.{one_command, one_of_all}
-use Rattle.command_line.specs.Command.{AreWordsOf, CommandValues, score as of_score, merge as of_merge, report as of_report, lcov as of_lcov, rank as of_rank}
+use Rattle.command_line.specs.Command.{AreWordsOf, CommandValues, score as of_score, merge as of_merge, report as of_report, lcov as of_lcov, rank as of_rank, exclude as of_exclude, restore as of_restore}
 use Rattle.command_line.specs.CommandWords.{IsScore, ScoreValues}
 use Rattle.cov_host.specs.Outside.{Files, Outside, IsCounted}
 use Rattle.design_model.specs.Run.{Run}
@@ -344,6 +344,8 @@ module _ (words : List (List ℕ)) (before after : Outside) (done : IsDone words
       by_values (of_report other) is_other by = let e = one_of_all words (of_report other) (of_score score) is_other is in absurd (cc)
       by_values (of_lcov other) is_other by = let e = one_of_all words (of_lcov other) (of_score score) is_other is in absurd (cc)
       by_values (of_rank other) is_other by = let e = one_of_all words (of_rank other) (of_score score) is_other is in absurd (cc)
+      by_values (of_exclude other) is_other by = let e = one_of_all words (of_exclude other) (of_score score) is_other is in absurd (cc)
+      by_values (of_restore other) is_other by = let e = one_of_all words (of_restore other) (of_score score) is_other is in absurd (cc)
 
   pub bad_source_not_done : IsCommandWith HasBadSource words before → ⊥
   bad_source_not_done (score, is, bad) = source_done score before bad.sources bad.told bad.gathered after bad.refused (done_by score is)

@@ -2,14 +2,16 @@
 use Rattle.std.specs.Prelude.{◌≡◌, ℕ, false, List, map}
 use Rattle.std.specs.List.{list_any}
 use Rattle.command_line.specs.CommandWords.{IsScore, ScoreValues}
-use Rattle.command_line.specs.Command.{AreWordsOf, CommandValues, score as of_score, merge as of_merge, report as of_report, lcov as of_lcov, rank as of_rank, command_values}
+use Rattle.command_line.specs.Command.{AreWordsOf, CommandValues, score as of_score, merge as of_merge, report as of_report, lcov as of_lcov, rank as of_rank, exclude as of_exclude, restore as of_restore, command_values}
 use Rattle.command_line.specs.declared.command.Command.{Command}
 use Rattle.cov_host.specs.Outside.{Outside, HasFile, Told}
 use Rattle.coverage_db.specs.Text.{text_of}
 use Rattle.coverage_db.specs.declared.db.Db.{Db}
+use Rattle.database_commands.specs.Excluding.{IsChangedIn, IsChangedText}
 use Rattle.database_commands.specs.Merging.{IsMergedIn, IsMergedText}
 use Rattle.database_commands.specs.Ranking.{IsRankedIn, IsRankedText}
 use Rattle.database_commands.specs.Reporting.{IsReportedIn, IsReportedText}
+use Rattle.database_commands.specs.declared.change.Change.TheVariants as change
 use Rattle.database_commands.specs.Tracing.{IsTracedIn, IsTracedText}
 use Rattle.design_model.specs.Design.{path_of}
 use Rattle.design_model.specs.View.{design_view}
@@ -154,6 +156,8 @@ IsDoneBy (of_merge values) before after = IsMergedIn values before after
 IsDoneBy (of_report values) before after = IsReportedIn values before after
 IsDoneBy (of_lcov values) before after = IsTracedIn values before after
 IsDoneBy (of_rank values) before after = IsRankedIn values before after
+IsDoneBy (of_exclude values) before after = IsChangedIn change.Exclude values before after
+IsDoneBy (of_restore values) before after = IsChangedIn change.Restore values before after
 
 -- the text is the one that a command with these values asks for
 abbrev pub IsTextOf : CommandValues → Outside → List ℕ → Type 0
@@ -162,6 +166,8 @@ IsTextOf (of_merge values) before text = IsMergedText values before text
 IsTextOf (of_report values) before text = IsReportedText values before text
 IsTextOf (of_lcov values) before text = IsTracedText values before text
 IsTextOf (of_rank values) before text = IsRankedText values before text
+IsTextOf (of_exclude values) before text = IsChangedText change.Exclude values before text
+IsTextOf (of_restore values) before text = IsChangedText change.Restore values before text
 
 -- what the command asks for was done
 abbrev pub IsDoneWork : Command → Outside → Outside → Type 0
