@@ -28,6 +28,7 @@ trial d codes time old new early =
       tables = record { watched = λ p. []; clocked = []; order = []; last = [] };
       sets = record { moves = λ x. false; trigger = λ p. None; round = λ p. 0; wakes = λ p. None; early = early };
       time = time;
+      listed = true;
       new = new;
       start = record { kept = λ c. Some (old c); acted = λ p. false; notes = [] };
     }

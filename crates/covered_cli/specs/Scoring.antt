@@ -24,7 +24,6 @@ use Rattle.event_machine.specs.Habit.{Habit}
 use Rattle.dump_score.specs.score_tables.Head.{HasHead}
 use Rattle.dump_score.specs.score_tables.Windows.{windows_of}
 use Rattle.shown_dumps.specs.Bound.{HasNoBaseline, IsBound}
-use Rattle.signal_binding.specs.Binding.{IsNotDumped}
 use Rattle.signal_binding.specs.Names.{stands_in}
 use Rattle.source_design.specs.Accepted.{StandFor}
 use Rattle.source_design.specs.Reading.{HasSources}
@@ -74,7 +73,7 @@ HasSomeDesign score before = (sources : List SourceText) × (design : Design) ×
 abbrev pub names_of : List SourceText → List (List ℕ)
 names_of sources = map (λ source. source.name) sources
 
--- the text is no dump that has the instance, a variable of each input, and a first value of each signal that has a variable
+-- the text is no dump that has the instance, and a first value of each signal that has a variable
 abbrev pub HasNoScore : Design → List ℕ → List ℕ → Type 0
 HasNoScore design instance text = (dump : Dump) → IsDump text dump → IsBound design dump instance → ⊥
 
@@ -100,8 +99,6 @@ pub record IsScoreText (habit : Habit) (design : Design) (machines : StateMachin
 abbrev pub IsDumpRefusal : Design → List ℕ → List ℕ → DumpRefusal → Type 0
 IsDumpRefusal design instance text (refusal.At kind byte) = IsDumpFault design instance text (At kind byte)
 IsDumpRefusal design instance text (refusal.NoInstance path) = (path.now ≡ instance) × SaysSome text (λ b. list_any (stands_in instance) b.vars ≡ false)
-IsDumpRefusal design instance text (refusal.InputNotDumped path) =
-    (s : ℕ) × (path ≡ path_of (design_view design) s) × SaysSome text (λ b. IsNotDumped design b.vars instance s)
 IsDumpRefusal design instance text (refusal.NoBaseline path) =
     (s : ℕ) × (path ≡ path_of (design_view design) s) × SaysSome text (λ b. HasNoBaseline design b.vars instance b.items s)
 

@@ -78,11 +78,6 @@ const ELSEWHERE: &[&str] = &[
     "score", "-t", "pads", "-i", "tb.x", "-v", "pads.v", "-vcd", "D", "-o", "B",
 ];
 
-/// The same where the scope has no inputs.
-const OUTSIDE: &[&str] = &[
-    "score", "-t", "pads", "-i", "tb", "-v", "pads.v", "-vcd", "D", "-o", "B",
-];
-
 /// Scores a module of two sources with an included file and a macro.
 const INCLUDING: &[&str] = &[
     "score", "-t", "pads", "-i", "tb.dut", "-v", "a.v", "-D", "TOP=1", "-v", "pads.v", "-I", "inc",
@@ -142,7 +137,6 @@ const SCORED: &[Case] = &[
 const DUMPS: &[Case] = &[
     // dumps that are refused
     Case { words: ELSEWHERE, files: &[("pads.v", SOURCE), ("D", DUMP)], status: Status::Dump, output: NONE, printed: "", warned: "covered: dump: bind 1 NoInstance tb.x\n" },
-    Case { words: OUTSIDE, files: &[("pads.v", SOURCE), ("D", DUMP)], status: Status::Dump, output: NONE, printed: "", warned: "covered: dump: bind 2 InputNotDumped pads.clk\n" },
     Case { words: SCORE, files: &[("pads.v", SOURCE), ("D", NO_BASELINE)], status: Status::Dump, output: NONE, printed: "", warned: "covered: dump: bind 3 NoBaseline pads.a\n" },
     Case { words: SCORE, files: &[("pads.v", SOURCE), ("D", TIME_BACK)], status: Status::Dump, output: NONE, printed: "", warned: "covered: dump: 5 TimeBack at byte 141\n" },
     // sources with what they include

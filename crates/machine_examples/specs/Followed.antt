@@ -64,6 +64,7 @@ step =
       tables = record { watched = λ p. []; clocked = []; order = []; last = [] };
       sets = record { moves = λ x. x == 1; trigger = λ p. None; round = λ p. 0; wakes = λ p. None; early = λ p x. false };
       time = 5;
+      listed = true;
       new = pipe_values Zero One One X X;
       start = replay kept [];
     }

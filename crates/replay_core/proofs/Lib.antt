@@ -1,4 +1,5 @@
 pub mod Codes
+pub mod Inputs
 pub mod Orders
 pub mod Given
 pub mod Untouched
@@ -12,3 +13,4 @@ pub mod Changes
 pub mod Ends
 pub mod Stepping
 pub mod ClosingStep
+pub mod Resting

@@ -1,4 +1,4 @@
-use Rattle.std.proofs.Common.{◌≡◌, ◌∙◌, [], get_or, subst, sym}
+use Rattle.std.proofs.Common.{◌≡◌, ◌∙◌, ◌||◌, not, [], get_or, subst, sym}
 use Rattle.std.proofs.lemmas.List.{get_or_default, take_all, take_more}
 use Rattle.design_model.specs.View.{design_view}
 use Rattle.step_machines.specs.Marked.{MarksAll}
@@ -38,14 +38,14 @@ loop-thing-preserved c =
     let l = c.loop-thing-test.true in (
       c.mark_thing.ensures.points,
       λ st over.
-          subst (λ ss. MarksSome st c.args.points.now c.args.self.now.told ss c.args.marks.now.verdicts c.mark_thing.new.marks.verdicts) (sym (take_more moves i 0 l))
-          (one_thing st c.args.points.now c.args.self.now.told _ s c.args.marks.now.verdicts c.loop-thing.marks.verdicts c.mark_thing.new.marks.verdicts (c.loop-thing.invariant.1 st over)
-          (c.mark_thing.ensures.machines st (record { values = over.values; moves = over.moves s ∙ thing_moves moves i s l (get_or_default moves i s 0 l); time = over.time }))),
+          subst (λ ss. MarksSome st c.args.points.now (not c.args.listed || c.args.self.now.told) ss c.args.marks.now.verdicts c.mark_thing.new.marks.verdicts) (sym (take_more moves i 0 l))
+          (one_thing st c.args.points.now (not c.args.listed || c.args.self.now.told) _ s c.args.marks.now.verdicts c.loop-thing.marks.verdicts c.mark_thing.new.marks.verdicts (c.loop-thing.invariant.1 st over)
+          (c.mark_thing.ensures.machines st (record { values = over.values; moves = over.moves s ∙ thing_moves moves i s l (get_or_default moves i s 0 l); time = over.time; kind = over.kind }))),
     )
 
 pub returns-clause-machines : goal.returns-clause-machines
 returns-clause-machines c = λ st over.
     let first = c.args.marks.now.verdicts in
     let after = c.loop-thing.marks.verdicts in
-    all_things st c.args.points.now c.args.self.now.told c.args.moves.now first after over.moves
-    (subst (λ ss. MarksSome st c.args.points.now c.args.self.now.told ss first after) (take_all c.loop-thing.thing-index c.args.moves.now c.loop-thing-test.false) (c.loop-thing.invariant.1 st over))
+    all_things st c.args.points.now (not c.args.listed || c.args.self.now.told) c.args.moves.now first after over.moves
+    (subst (λ ss. MarksSome st c.args.points.now (not c.args.listed || c.args.self.now.told) ss first after) (take_all c.loop-thing.thing-index c.args.moves.now c.loop-thing-test.false) (c.loop-thing.invariant.1 st over))

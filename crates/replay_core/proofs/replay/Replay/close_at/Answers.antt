@@ -7,7 +7,7 @@ use Rattle.replay_core.specs.Made.{made_with, parts_with}
 use Rattle.replay_core.specs.Parts.{IsReady, given_of, made_of, parts_of}
 use Rattle.replay_core.specs.declared.replay.Replay.{Replay}
 use Rattle.replay_core.proofs.ClosingStep.{closed_ready, contradiction_after, counts_after, followed_after, is_started, named_after, none_then, refused_after, started_after}
-use Rattle.replay_core.proofs.replay.Replay.close_step.Goals as goal
+use Rattle.replay_core.proofs.replay.Replay.close_at.Goals as goal
 
 pub returns-clause-ready : goal.returns-clause-ready
 returns-clause-ready g c =
@@ -32,7 +32,7 @@ pub returns-clause-values : goal.returns-clause-values
 returns-clause-values g c = ap given_of c.end.ensures.phase ∙ c.run_step-found.ensures.values
 
 pub returns-clause-started : goal.returns-clause-started
-returns-clause-started g c = started_after c.args.self.now c.end.new.self c.run_step-found.result c.args.time (ap (λ (y : Replay). y.phase) c.end.ensures.phase) c.end.result c.end.ensures.ok c.end.ensures.err
+returns-clause-started g c = started_after c.args.self.now c.end.new.self c.run_step-found.result c.args.time c.args.listed (ap (λ (y : Replay). y.phase) c.end.ensures.phase) c.end.result c.end.ensures.ok c.end.ensures.err
 
 pub returns-clause-followed : goal.returns-clause-followed
 returns-clause-followed g c =
@@ -42,13 +42,13 @@ returns-clause-followed g c =
     let d = design_view x.design.now in
     let points = x.state.notes.points.now in
     let same : made_of y ≡ made_of x = ap made_of c.end.ensures.phase ∙ ap (λ ps. made_with d x.habit ps x.tables.value) run.ensures.points in
-    let closes1 = subst (λ tables. IfNone run.result (Closes (made_with d x.habit points tables) c.args.time (parts_with c.deref_mut.result.now x.state) (parts_with run.new.room run.new.state))) c.deref.ensures run.ensures.closes in
-    let closes2 = subst (λ room. IfNone run.result (Closes (made_of x) c.args.time (parts_with room x.state) (parts_with run.new.room run.new.state))) c.deref_mut.ensures.value closes1 in
-    let closes3 = subst (λ z. IfNone run.result (Closes (made_of x) c.args.time (parts_of x) (parts_of z))) (sym c.end.ensures.phase) closes2 in
-    followed_after x y run.result c.args.time (ap (λ (z : Replay). z.phase) c.end.ensures.phase) c.end.result c.end.ensures.ok c.end.ensures.err c.requires.ready.parts.state.unsigned same closes3
+    let closes1 = subst (λ tables. IfNone run.result (Closes (made_with d x.habit points tables) c.args.time c.args.listed (parts_with c.deref_mut.result.now x.state) (parts_with run.new.room run.new.state))) c.deref.ensures run.ensures.closes in
+    let closes2 = subst (λ room. IfNone run.result (Closes (made_of x) c.args.time c.args.listed (parts_with room x.state) (parts_with run.new.room run.new.state))) c.deref_mut.ensures.value closes1 in
+    let closes3 = subst (λ z. IfNone run.result (Closes (made_of x) c.args.time c.args.listed (parts_of x) (parts_of z))) (sym c.end.ensures.phase) closes2 in
+    followed_after x y run.result c.args.time c.args.listed (ap (λ (z : Replay). z.phase) c.end.ensures.phase) c.end.result c.end.ensures.ok c.end.ensures.err c.requires.ready.parts.state.unsigned same closes3
 
 pub returns-clause-refused : goal.returns-clause-refused
-returns-clause-refused g c = refused_after c.args.self.now c.end.new.self c.run_step-found.result c.args.time (ap (λ (y : Replay). y.phase) c.end.ensures.phase) c.end.result c.end.ensures.ok c.end.ensures.err
+returns-clause-refused g c = refused_after c.args.self.now c.end.new.self c.run_step-found.result c.args.time c.args.listed (ap (λ (y : Replay). y.phase) c.end.ensures.phase) c.end.result c.end.ensures.ok c.end.ensures.err
 
 pub returns-clause-contradiction : goal.returns-clause-contradiction
 returns-clause-contradiction g c =
@@ -56,9 +56,9 @@ returns-clause-contradiction g c =
     let run = c.run_step-found in
     let d = design_view x.design.now in
     let points = x.state.notes.points.now in
-    let refutes1 = subst (λ tables. IfSome run.result (Refutes (made_with d x.habit points tables) c.args.time (parts_with c.deref_mut.result.now x.state))) c.deref.ensures run.ensures.refutes in
-    let refutes2 = subst (λ room. IfSome run.result (Refutes (made_of x) c.args.time (parts_with room x.state))) c.deref_mut.ensures.value refutes1 in
-    contradiction_after x c.end.new.self run.result c.args.time (ap (λ (y : Replay). y.phase) c.end.ensures.phase) c.end.result c.end.ensures.ok c.end.ensures.err c.requires.ready.parts.state.unsigned refutes2
+    let refutes1 = subst (λ tables. IfSome run.result (Refutes (made_with d x.habit points tables) c.args.time c.args.listed (parts_with c.deref_mut.result.now x.state))) c.deref.ensures run.ensures.refutes in
+    let refutes2 = subst (λ room. IfSome run.result (Refutes (made_of x) c.args.time c.args.listed (parts_with room x.state))) c.deref_mut.ensures.value refutes1 in
+    contradiction_after x c.end.new.self run.result c.args.time c.args.listed (ap (λ (y : Replay). y.phase) c.end.ensures.phase) c.end.result c.end.ensures.ok c.end.ensures.err c.requires.ready.parts.state.unsigned refutes2
 
 pub returns-clause-again : goal.returns-clause-again
 returns-clause-again g c = λ fault refused. absurd (c.in_default.not-Refused fault refused)
@@ -66,7 +66,7 @@ returns-clause-again g c = λ fault refused. absurd (c.in_default.not-Refused fa
 pub returns-clause-named : goal.returns-clause-named
 returns-clause-named g c =
     let x = c.args.self.now in
-    named_after x c.end.new.self c.run_step-found.result c.args.time (ap (λ (y : Replay). y.phase) c.end.ensures.phase) c.end.result c.end.ensures.ok c.end.ensures.err (length x.design.now.signals) c.run_step-found.ensures.named
+    named_after x c.end.new.self c.run_step-found.result c.args.time c.args.listed (ap (λ (y : Replay). y.phase) c.end.ensures.phase) c.end.result c.end.ensures.ok c.end.ensures.err (length x.design.now.signals) c.run_step-found.ensures.named
 
 pub returns-clause-steps : goal.returns-clause-steps
 returns-clause-steps g c =
@@ -76,6 +76,6 @@ returns-clause-steps g c =
     let points = x.state.notes.points.now in
     let before = c.args.steps.now in
     let after = run.new.steps in
-    let counts1 = subst (λ tables. Counts (made_with d x.habit points tables) c.args.time (parts_with c.deref_mut.result.now x.state) before after) c.deref.ensures run.ensures.counts in
-    let counts2 = subst (λ room. Counts (made_of x) c.args.time (parts_with room x.state) before after) c.deref_mut.ensures.value counts1 in
-    counts_after x c.args.time before after c.requires.ready.parts.state.unsigned counts2
+    let counts1 = subst (λ tables. Counts (made_with d x.habit points tables) c.args.time c.args.listed (parts_with c.deref_mut.result.now x.state) before after) c.deref.ensures run.ensures.counts in
+    let counts2 = subst (λ room. Counts (made_of x) c.args.time c.args.listed (parts_with room x.state) before after) c.deref_mut.ensures.value counts1 in
+    counts_after x c.args.time c.args.listed before after c.requires.ready.parts.state.unsigned counts2
