@@ -6,7 +6,7 @@ use Rattle.design_model.specs.FlipFlop.{flip_flop}
 use Rattle.design_model.specs.Gate.{gate, gate_dump, gate_values}
 use Rattle.body_replay.specs.Store.{Kept}
 use Rattle.body_store.specs.Made.{nothing}
-use Rattle.first_step.specs.Begun.{assigns, putting_all}
+use Rattle.first_step.specs.Begun.{all_left, putting_all}
 
 -- of the gate the dump has a, which is 0, and b, which is 1
 abbrev pub gate_kept : Kept
@@ -14,8 +14,8 @@ gate_kept = putting_all gate gate_dump.bound (gate_values Zero One X) nothing
 
 -- the assignment of the gate runs, and the block of the register does not
 pub record IsFirstExample : Type 0 where
-  pub net : assigns gate (0 ∷ []) ≡ 0 ∷ []
-  pub register : assigns flip_flop (0 ∷ []) ≡ []
+  pub net : all_left gate [] (0 ∷ []) ≡ 0 ∷ []
+  pub register : all_left flip_flop [] (0 ∷ []) ≡ []
   pub a : gate_kept (cell 0 0) ≡ Some Zero
   pub b : gate_kept (cell 1 0) ≡ Some One
   pub y : gate_kept (cell 2 0) ≡ None

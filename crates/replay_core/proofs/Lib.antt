@@ -12,3 +12,4 @@ pub mod Changes
 pub mod Ends
 pub mod Stepping
 pub mod ClosingStep
+pub mod Pausing

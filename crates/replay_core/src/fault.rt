@@ -24,8 +24,8 @@ pub enum ReplayFault {
 /// How far a replay has come.
 #[derive(Clone, Copy)]
 pub(crate) enum Phase {
-    /// No step was closed.
-    New,
+    /// No step of the stretch was closed, and nothing is known.
+    Paused,
     /// The first step was closed.
     Started,
     /// A step was refused for this.

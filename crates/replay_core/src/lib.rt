@@ -11,6 +11,7 @@
 mod clocked;
 mod fault;
 mod first;
+mod pausing;
 mod replay;
 mod room;
 mod rows;

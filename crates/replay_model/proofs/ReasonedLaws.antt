@@ -12,9 +12,13 @@ use Rattle.design_model.specs.MayMove.{IsCleanAt, MayMoveAt}
 use Rattle.event_machine.specs.MayMove.{of_input, of_target}
 use Rattle.replay_model.proofs.Existing.{signal_has}
 use Rattle.replay_model.proofs.SettleReasons.{bound_clear, sure_at}
-use Rattle.design_model.specs.Shows.{BoundDump, IsListed, IsWindow}
+use Rattle.design_model.specs.Run.{IsRun, Run}
+use Rattle.design_model.specs.Shows.{BoundDump, IsListed, IsWindow, Shows}
+use Rattle.design_model.specs.Points.{IsHitAt}
+use Rattle.design_model.specs.Doubt.{IsInDoubt}
+use Rattle.design_model.specs.Open.{IsReached}
 use Rattle.design_model.specs.Clear.{HasChanged, clear}
-use Rattle.design_model.proofs.Toggles.{window_shown_at}
+use Rattle.design_model.proofs.Stretches.{window_shown_at}
 use Rattle.body_replay.specs.Contract.{Doubted, sure_in}
 use Rattle.body_replay.specs.Runs.{Runs}
 use Rattle.replay_model.specs.Tables.{Tables}
@@ -23,7 +27,7 @@ use Rattle.replay_model.specs.Step.{Replay, all_run, contradicts, is_comb, is_du
 use Rattle.replay_model.specs.Sets.{AreSets, Sets}
 use Rattle.replay_model.specs.Stands.{AreKnown, AreReasoned, IsMade}
 use Rattle.replay_model.proofs.AskedLaws.{AskedLaws, asked_of}
-use Rattle.replay_model.specs.Laws.{IsReplayOf, ReasonedVerdictLaw, RestForcedLaw, RestKnownLaw, RestReasonedLaw, StepKnownLaw, StepReasonedLaw, closed_at, closing_at}
+use Rattle.replay_model.specs.Laws.{AreReasonedVerdicts, IsReplayOf, ReasonedVerdictLaw, RestForcedLaw, RestKnownLaw, RestReasonedLaw, StepKnownLaw, StepReasonedLaw, closed_at, closing_at}
 use Rattle.replay_model.proofs.Bits.{in_left}
 use Rattle.replay_model.proofs.Calm.{calm_dumped}
 use Rattle.replay_model.proofs.ClearClocked.{unwoken_sure, written_sure}
@@ -32,6 +36,7 @@ use Rattle.replay_model.proofs.MadeNow.{find, made_touched, starts}
 use Rattle.replay_model.proofs.Order.{final_dumped}
 use Rattle.replay_model.proofs.MadeRest.{has_acted_now, made_untouched, untouched_acted}
 use Rattle.replay_model.proofs.Settling.{is_comb-from}
+use Rattle.replay_model.proofs.Showing.{shows_to}
 use Rattle.replay_model.proofs.Tells.{doubt_step, kept_told, reached_step}
 use Rattle.replay_model.proofs.Trace.{hit_in, in_hit}
 
@@ -135,7 +140,7 @@ rest_known d h dump run tables points is asked t a window unlisted known =
     dumped : (c : Cell) → is_dumped d dump.bound c ≡ true → a.kept c ≡ Some (dump.values (suc t) c)
     dumped c has =
         let b = and_parts (dump.bound c.thing) _ has in
-        sure_at a.kept (dump.values t) (signal_cells d c.thing) (known.is_clear (a_signal c.thing) (signal_bits d (dump.values t) c.thing) (bound_clear d h dump t c.thing (window_shown_at dump.times t window).0 b.0 (is.fits.signals c.thing b.0))) c (signal_has d c (ltb-true _ _ b.1))
+        sure_at a.kept (dump.values t) (signal_cells d c.thing) (known.is_clear (a_signal c.thing) (signal_bits d (dump.values t) c.thing) (bound_clear d h dump t c.thing (window_shown_at dump.stretches t window).0 b.0 (is.fits.signals c.thing b.0))) c (signal_has d c (ltb-true _ _ b.1))
         ∙ ap (λ f. Some (f c)) (sym (is.fits.stays t unlisted))
 
     acted : (p : ℕ) → IsComb (process_at d p) → HasChanged dump d (body_at d p) (suc t) → a.acted p ≡ true
@@ -153,13 +158,18 @@ pub rest_forced_law : RestForcedLaw
 rest_forced_law d h dump t unlisted before u s bits le forced = ⊎_elim (λ e. absurd (unlisted (subst (IsListed dump) e forced.is_listed))) (λ ne. before u s bits (omega (arith, le, ne)) forced) (cases_eq u (suc t))
 
 -- the reasoned verdicts
-pub reasoned_verdict_law : ReasonedVerdictLaw
-reasoned_verdict_law d h dump points t a ends shown sound told_all =
+-- verdicts are reasoned where the doubts that were reported are doubts, what is hit was reported, and so was what is reached
+pub verdicts_reasoned : (d : Design) (h : Habit) (dump : BoundDump) (points : List Point) (a : Replay)
+    → ((x : Point) (y : Doubted) → IsDoubtMarked d x y a.notes → IsWindow dump y.time × IsInDoubt d h dump x y.time y.thing)
+    → ((x : Point) → In x points → (r : Run) → IsRun d h r → Shows d dump r → (u : ℕ) → IsWindow dump u → IsHitAt d dump r x u → IsHitMarked d x a.notes ⊎ ((s : ℕ) × IsDoubtMarked d x (record { time = u; thing = s }) a.notes))
+    → ((u p : ℕ) (x : Point) → IsReached d h dump u p x → IsHitMarked d x a.notes)
+    → AreReasonedVerdicts d h dump points a
+verdicts_reasoned d h dump points a doubts marked reached =
     record {
-      doubted = λ x y verdict. let k = told_all.doubts x y (first_doubt x y verdict) in (k.0, k.2);
+      doubted = λ x y verdict. doubts x y (first_doubt x y verdict);
       decided = λ x y member verdict r is_run shows u window none hit.
-          ⊎_elim (λ reasoned. verdict.0 reasoned) (λ s. none s.0 (told_all.doubts x (record { time = u; thing = s.0 }) s.1).2) (sound.marked x member r (record { is_run = is_run; shows = record { starts = shows.starts; shows = λ v is_shown le. shows.shows v is_shown } }) u window (ends u window) hit);
-      reached = λ u p x reached. told_all.reached u p x (ends u reached.0) reached;
+          ⊎_elim (λ reasoned. verdict.0 reasoned) (λ s. none s.0 (doubts x (record { time = u; thing = s.0 }) s.1).1) (marked x member r is_run shows u window hit);
+      reached = reached;
     }
   where
     in_middle : (before : List Marking) (n : Marking) (after : List Marking) → In n (before ++ n ∷ after)
@@ -168,6 +178,12 @@ reasoned_verdict_law d h dump points t a ends shown sound told_all =
 
     first_doubt : (x : Point) (y : Doubted) → Rattle.replay_model.specs.Marks.IsVerdict d x a.notes (Rattle.replay_model.specs.Marks.Undetermined y) → IsDoubtMarked d x y a.notes
     first_doubt x y v = Rattle.replay_model.proofs.Trace.in_doubt d x y a.notes v.1.1 (subst (In v.1.1) (sym v.1.3) (in_middle v.1.0 v.1.1 v.1.2)) v.1.5 v.1.6
+
+pub reasoned_verdict_law : ReasonedVerdictLaw
+reasoned_verdict_law d h dump points t a ends shown sound told_all =
+    verdicts_reasoned d h dump points a (λ x y told. let k = told_all.doubts x y told in (k.0, k.2))
+    (λ x member r is_run shows u window hit. sound.marked x member r (shows_to d h dump t r is_run shows) u window (ends u window) hit)
+    (λ u p x reached. told_all.reached u p x (ends u reached.0) reached)
 
 pub step_known_law : (h : Habit) → StepKnownLaw h
 step_known_law h d dump run tables points is own = step_known h d dump run tables points is (asked_of d is.lawful own)

@@ -1,7 +1,7 @@
 -- The replay is sound: after the first step, after each closing step and over each time that the dump does not list; a
 -- contradiction is one; and so hit is hit and missed is never hit.
 use Rattle.std.proofs.Common.{◌≡◌, ◌⊎◌, inl, inr, ⊎_elim, ℕ, suc, ◌≤◌, true, false, List, [], ◌∷◌, ◌++◌, refl, sym, ap, subst, ◌∙◌, arith, Some, None}
-use Rattle.std.proofs.lemmas.Bool.{both_ways, cases_eq}
+use Rattle.std.proofs.lemmas.Bool.{cases_eq}
 use Rattle.event_machine.proofs.Least.{early_law}
 use Rattle.event_machine.specs.Cell.{Values}
 use Rattle.event_machine.specs.Event.{end_state}
@@ -18,12 +18,13 @@ use Rattle.design_model.specs.Execution.{Visit}
 use Rattle.design_model.specs.Machine.{machine}
 use Rattle.design_model.specs.Run.{IsRun, Run, StepOf, end_of, evaluations_of, settled, start_of}
 use Rattle.design_model.specs.Scored.{IsScoredOf, VisitsIn}
-use Rattle.design_model.specs.Shows.{BoundDump, IsFirstOf, IsListed, IsShowing, IsWindow, IsWindowOf, Shows}
+use Rattle.design_model.specs.Shows.{BoundDump, IsListed, IsShowing, IsWindow, Shows}
 use Rattle.design_model.specs.Points.{HitAt, HitIn, IsHit, IsHitAt}
 use Rattle.design_model.proofs.Assigns.{machine_lawful}
 use Rattle.design_model.proofs.StepLaws.{StepLaws, step_laws}
 use Rattle.design_model.specs.StepLaws.{IsLeft}
 use Rattle.design_model.proofs.StepFacts.{unlisted_law}
+use Rattle.design_model.proofs.Stretches.{window_before_first}
 use Rattle.replay_model.proofs.AskedLaws.{AskedLaws, asked_of}
 use Rattle.body_replay.specs.Contract.{spot_at}
 use Rattle.body_replay.specs.Replay.{Spot, line, node, word_read, word_write}
@@ -34,12 +35,13 @@ use Rattle.replay_model.specs.Tables.{Tables}
 use Rattle.replay_model.specs.Marks.{IsKeyOf, IsDoubtMarked, IsHitMarked, IsUnmarked, Marking}
 use Rattle.replay_model.specs.Step.{Replay, all_point_notes, all_run, contradicts}
 use Rattle.replay_model.specs.Stands.{IsSound}
-use Rattle.replay_model.specs.Laws.{ContradictionLaw, FirstContradictionLaw, FirstSoundLaw, IsReplayOf, RestSoundLaw, SoundVerdictLaw, StepSoundLaw, closed_at, closing_at}
+use Rattle.replay_model.specs.Laws.{AreSoundVerdicts, ContradictionLaw, FirstContradictionLaw, FirstSoundLaw, IsReplayOf, RestSoundLaw, SoundVerdictLaw, StepSoundLaw, closed_at, closing_at}
 use Rattle.replay_model.proofs.Allows.{all_sound, contradicts_none}
 use Rattle.replay_model.proofs.Bits.{in_halves, in_left, in_right}
 use Rattle.replay_model.proofs.BodyComplete.{body_marked}
 use Rattle.replay_model.proofs.BodyMarks.{body_hit, old_kept}
 use Rattle.replay_model.proofs.FirstStep.{first_contradicts_none, first_sound}
+use Rattle.replay_model.proofs.Showing.{earlier, shows_to}
 use Rattle.replay_model.proofs.SignalPoints.{PointNow, in_point_notes, note_key, point_hit, point_marked, point_notes_in}
 use Rattle.replay_model.proofs.Trace.{doubt_in, hit_in, in_doubt, in_hit}
 
@@ -47,28 +49,21 @@ abbrev the_laws : (d : Design) → IsLawful (machine d) → (h : Habit) → Step
 the_laws d lawful h = step_laws (machine d) lawful h
 
 -- a run that shows the dump up to a time shows it up to an earlier one
-earlier : (d : Design) (h : Habit) (dump : BoundDump) (t u : ℕ) (r : Run) → u ≤ t → IsShowing d h dump t r → IsShowing d h dump u r
-earlier d h dump t u r le showing = record { is_run = showing.is_run; shows = record { starts = showing.shows.starts; shows = λ s shown before. showing.shows.shows s shown (omega (arith, before, le)) } }
-
 pub contradiction_law : (h : Habit) → ContradictionLaw h
 contradiction_law h d dump run tables points is t sets a c window are sound e r showing =
     contradicts_none d h dump run tables points is (step_laws (machine d) (machine_lawful d is.lawful) h) (early_law (machine d)) t window sets are a r showing (sound.allows r (earlier d h dump (suc t) t r (omega arith) showing)) (sound.acted r (earlier d h dump (suc t) t r (omega arith) showing)) c e
 
 pub first_contradiction_law : FirstContradictionLaw
-first_contradiction_law d h dump run tables points is t c first shown e r showing = first_contradicts_none d h dump run tables points is (step_laws (machine d) (machine_lawful d is.lawful) h) t shown r showing c e
-
--- before its first time a dump has no window
-first_window : (times : List ℕ) (t u : ℕ) → IsFirstOf times t → u ≤ t → IsWindowOf times u → ⊥
-first_window [] t u first le window = first
-first_window (x ∷ xs) t u first le window = omega (arith, first, le, window.0)
+first_contradiction_law d h dump run tables points is t a c first shown paused e r showing =
+    first_contradicts_none d h dump run tables points is (step_laws (machine d) (machine_lawful d is.lawful) h) t a paused.acted shown r showing c e
 
 pub first_sound_law : FirstSoundLaw
-first_sound_law d h dump run tables points is t first shown =
+first_sound_law d h dump run tables points is t a first shown paused =
     record {
-      allows = λ r showing. (first_sound d h dump run tables points is (step_laws (machine d) (machine_lawful d is.lawful) h) t shown r showing).allowed;
-      acted = λ r showing p comb' e. absurd (both_ways false refl e);
-      hits = λ x told r showing. absurd told;
-      marked = λ x member r showing u window le hit. absurd (first_window dump.times t u first le window);
+      allows = λ r showing. (first_sound d h dump run tables points is (step_laws (machine d) (machine_lawful d is.lawful) h) t a paused.acted shown r showing).allowed;
+      acted = paused.acted;
+      hits = λ x told r showing. let k = paused.hits x told r showing in let before = k.2 in (k.0, k.1, omega (arith, before), k.3);
+      marked = λ x member r showing u window le hit. paused.marked x member r showing u window (window_before_first dump.stretches t u is.fits.rising first window le) hit;
     }
 
 -- the points of bodies, and those on signals
@@ -220,17 +215,23 @@ at_hit : (d : Design) (dump : BoundDump) (r : Run) (x : Point) → IsHit d dump 
 at_hit d dump r x (inl k) = (k.0.step.time, k.1, inl (k.0, refl, k.2))
 at_hit d dump r x (inr k) = (k.0, k.1, inr (k.2, k.3))
 
-pub sound_verdict_law : SoundVerdictLaw
-sound_verdict_law d h dump points t a ends shown sound =
+-- verdicts are sound where what was reported to be hit is hit in each run that shows the dump, and what is hit in one was reported
+pub verdicts_sound : (d : Design) (h : Habit) (dump : BoundDump) (points : List Point) (a : Replay)
+    → ((x : Point) → IsHitMarked d x a.notes → (r : Run) → IsRun d h r → Shows d dump r → (u : ℕ) × IsWindow dump u × IsHitAt d dump r x u)
+    → ((x : Point) → In x points → (r : Run) → IsRun d h r → Shows d dump r → (u : ℕ) → IsWindow dump u → IsHitAt d dump r x u → IsHitMarked d x a.notes ⊎ ((s : ℕ) × IsDoubtMarked d x (record { time = u; thing = s }) a.notes))
+    → AreSoundVerdicts d h dump points a
+verdicts_sound d h dump points a hits marked =
     record {
-      hit = λ x told r is_run shows. let k = sound.hits x told r (showing r is_run shows) in hit_at d dump r x k.0 k.1 k.3;
+      hit = λ x told r is_run shows. let k = hits x told r is_run shows in hit_at d dump r x k.0 k.1 k.2;
       missed = λ x member none r is_run shows hit.
           let k = at_hit d dump r x hit in
-          ⊎_elim (λ e. let n = hit_in d x a.notes e in untold_none d x a.notes none n.0 n.1 n.2) (λ e. let n = doubt_in d x (record { time = k.0; thing = e.0 }) a.notes e.1 in untold_none d x a.notes none n.0 n.1 n.2) (sound.marked x member r (showing r is_run shows) k.0 k.1 (ends k.0 k.1) k.2);
+          ⊎_elim (λ e. let n = hit_in d x a.notes e in untold_none d x a.notes none n.0 n.1 n.2) (λ e. let n = doubt_in d x (record { time = k.0; thing = e.0 }) a.notes e.1 in untold_none d x a.notes none n.0 n.1 n.2) (marked x member r is_run shows k.0 k.1 k.2);
     }
-  where
-    showing : (r : Run) → IsRun d h r → Shows d dump r → IsShowing d h dump t r
-    showing r is_run shows = record { is_run = is_run; shows = record { starts = shows.starts; shows = λ s is_shown le. shows.shows s is_shown } }
+
+pub sound_verdict_law : SoundVerdictLaw
+sound_verdict_law d h dump points t a ends shown sound =
+    verdicts_sound d h dump points a (λ x told r is_run shows. let k = sound.hits x told r (shows_to d h dump t r is_run shows) in (k.0, k.1, k.3))
+    (λ x member r is_run shows u window hit. sound.marked x member r (shows_to d h dump t r is_run shows) u window (ends u window) hit)
 
 pub step_sound_law : (h : Habit) → StepSoundLaw h
 step_sound_law h d dump run tables points is own t sets a window listed are sound = step_sound h d dump run tables points is (asked_of d is.lawful own) t sets a window listed are sound

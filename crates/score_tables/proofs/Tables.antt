@@ -55,7 +55,7 @@ module _ (d : Design) (h : Habit) (dump : BoundDump) (ms : StateMachines) (ps : 
   pub are_of_design : All (IsOfDesign d) vs
   are_of_design = All-weaker (IsWrittenVerdict d) (IsOfDesign d) (of_design d) vs are_written
 
-  pub score_is : (names : List (List ℕ)) (windows : List Window) (db : Db) → All IsWrittenMachine ps.machines.items → IsWritten names d → IsRooted d → AreWindows windows → windows ≡ windows_of dump.times → IsCollected d names ps db → db.windows ≡ windows → AreShown d vs db.points → IsScoreTable d h dump ms names db
+  pub score_is : (names : List (List ℕ)) (windows : List Window) (db : Db) → All IsWrittenMachine ps.machines.items → IsWritten names d → IsRooted d → AreWindows windows → windows ≡ windows_of dump.stretches → IsCollected d names ps db → db.windows ≡ windows → AreShown d vs db.points → IsScoreTable d h dump ms names db
   score_is names windows db named is_written rooted rise of_dump is kept shown =
       let table : IsTable db = collected_is d names ps vs db lawful is_written (ms, all.listed) all.few named are_written is (subst AreWindows (sym kept) rise) shown in
       record {

@@ -88,6 +88,8 @@ passing_on f b P Q step p = record { passed = p.passed; unheard = p.unheard; the
 heard_said : (f : Filter) (said says : Option Entry) (b next : Body) → says ≡ heard f said → HasSaid said b next → Passing f b (λ m. HasSaid says m next)
 heard_said f None says b next e h = nothing_passed f b (λ m. HasSaid says m next) (subst (λ (o : Option Entry). HasSaid o b next) (sym e) h)
 heard_said f (Some (entry.Time time)) says b next e h = nothing_passed f b (λ m. HasSaid says m next) (subst (λ (o : Option Entry). HasSaid o b next) (sym e) h)
+heard_said f (Some entry.Off) says b next e h = nothing_passed f b (λ m. HasSaid says m next) (subst (λ (o : Option Entry). HasSaid o b next) (sym e) h)
+heard_said f (Some (entry.On time)) says b next e h = nothing_passed f b (λ m. HasSaid says m next) (subst (λ (o : Option Entry). HasSaid o b next) (sym e) h)
 heard_said f (Some (entry.Value code value)) says b next e h =
     elim (cases_Bool (hears f code)) [
       | inl on ↦ nothing_passed f b (λ m. HasSaid says m next) (subst (λ (o : Option Entry). HasSaid o b next) (sym (rw on at e)) h)
@@ -110,12 +112,16 @@ passing_end f said says text b e s =
 none_passed : (passed : List Entry) → All (IsPassed filter_row.All) passed → passed ≡ []
 none_passed [] all = refl
 none_passed (entry.Time time ∷ passed) all = absurd (all 0 (entry.Time time) (omega arith))
+none_passed (entry.Off ∷ passed) all = absurd (all 0 entry.Off (omega arith))
+none_passed (entry.On time ∷ passed) all = absurd (all 0 (entry.On time) (omega arith))
 none_passed (entry.Value code value ∷ passed) all = absurd (let no : true ≡ false = all 0 (entry.Value code value) (omega arith) in cc)
 
 -- what is not heard where only some codes are wanted
 pub unwanted_of : (f : Filter) (wanted : List Bool) → ((code : ℕ) → hears f code ≡ is_wanted wanted code) → (e : Entry) → IsPassed f e → IsUnwanted wanted e
 unwanted_of f wanted same (entry.Time time) p = p
 unwanted_of f wanted same (entry.Value code value) p = sym (same code) ∙ p
+unwanted_of f wanted same entry.Off p = p
+unwanted_of f wanted same (entry.On time) p = p
 
 -- what was answered is itself
 pub heard_is : (a b : Heard) → (let x : Result Heard DumpFault = Ok a in let y : Result Heard DumpFault = Ok b in x ≡ y) → a ≡ b
@@ -314,4 +320,6 @@ pub last_steps : (says : Says) (reader : BodyReader) (text piece : List ℕ) (b 
 last_steps says.Nothing reader text [] b none at_end h = record { none = refl; next = h.next; ended = record { at_end = at_end; ends = h.ends }; said = h.said }
 last_steps (says.Time time) reader text [] b none at_end h = record { none = refl; next = h.next; ended = record { at_end = at_end; ends = h.ends }; said = h.said }
 last_steps says.Change reader text [] b none at_end h = record { none = refl; next = h.next; ended = record { at_end = at_end; ends = h.ends }; said = h.said }
+last_steps says.Off reader text [] b none at_end h = record { none = refl; next = h.next; ended = record { at_end = at_end; ends = h.ends }; said = h.said }
+last_steps (says.On time) reader text [] b none at_end h = record { none = refl; next = h.next; ended = record { at_end = at_end; ends = h.ends }; said = h.said }
 last_steps says reader text (byte ∷ piece) b none at_end h = absurd (omega (arith, none))

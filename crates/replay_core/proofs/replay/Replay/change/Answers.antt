@@ -9,3 +9,13 @@ returns-clause-ready c =
     let x = c.args.self.now in
     let is = c.unsigned.ensures in
     given_ready (design_view x.design.now) x.state.notes.points.now x.tables.value x.room.value x.state x.phase c.args.code c.unsigned.result c.set.new.self c.requires.ready c.set.ensures.last c.set.ensures.closed (ap (λ (v : Vector). v.signed) is) (λ s coded. ap (λ (v : Vector). length v.bits) is ∙ c.requires.width s coded)
+
+pub returns-clause-paused : goal.returns-clause-paused
+returns-clause-paused c = λ dump u paused.
+    let p = paused.pauses in
+    record {
+      dumped = paused.dumped;
+      off = paused.off;
+      replay = paused.replay;
+      pauses = record { subject = p.subject; sets = p.sets; writers = p.writers; rest = p.rest; untold = p.untold; paused = p.paused };
+    }
