@@ -22,7 +22,7 @@ def random_events(builder):
     clocks = [name for name in inputs if name.startswith("clk")]
     resets = [name for name in inputs if name.startswith("rst")]
     derived = one_bit_names(builder)
-    if derived and chance.random() < 0.12:
+    if derived and chance.random() < chance.choice([0.05, 0.12, 0.5]):
         clocks = derived
     events = [(chance.choice(["posedge", "posedge", "negedge"]), chance.choice(clocks))]
     if resets and chance.random() < 0.35:
