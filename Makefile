@@ -11,7 +11,7 @@
 
 PREFIX ?= /usr/local
 PROGRAM = crates/covered/out/covered
-STAGE = rank
+STAGE = missing-inputs
 # parts of later stages that are already there: dumps and bindings
 AHEAD = pieces
 PADS = examples/pads

@@ -1,8 +1,8 @@
 #!/usr/bin/env python3
 """Scores random designs under random dumps of their simulation, and checks each database.
 
-    bench/random_designs.py PROGRAM [--clocked] [--machines] [--drawn] [--memories] [--late] [--runs N] [--seed S] [--dumps K]
-        [--out FOLDER] [--verbose]
+    bench/random_designs.py PROGRAM [--clocked] [--machines] [--drawn] [--memories] [--late] [--missing] [--runs N] [--seed S]
+        [--dumps K] [--out FOLDER] [--verbose]
 
 Each run makes a design of continuous assignments and combinational blocks and a bench that moves its inputs, simulates it by
 Icarus Verilog (`iverilog` and `vvp`) with K choices of dumped names, and scores it under each of these dumps. At times a dump
@@ -31,6 +31,10 @@ wakes a block, an input that is no event signal moves after the last of these, o
 nonblocking assignment. The dump is scored with `-late`, and those of every other design without it too, with three runs more of the
 free habit: then what is decided without `-late` must be decided the same with it.
 
+With `--missing` the dumps mostly lack some or all inputs of the top. Then three other runs are made for each of them, in which these
+inputs have other values and move at other times, seldom, at times or mostly, also where the dump lists no time; those count that
+show the dump. Such a dump at times lists more times, at which nothing of it changes.
+
 Checked is:
 
 - the status is 0, and the database lists the points of the design, with the states and arcs of each machine in each instance, which
@@ -40,7 +44,8 @@ Checked is:
   read and written), and one that is marked missed is not; the same in other simulations, with other orders and other values of
   what is not decided, where these show the same dump: one, or three of a design with clocked blocks. That a verdict holds in
   every other run is checked only as far as the next two points say it. A state is hit at each listed time of the window at which
-  the variable has its value, also where nothing moves there, and an arc over a step from the one value to the other;
+  the variable has its value, also where nothing moves there, and an arc over a step from the one value to the other. What is marked
+  hit is so in all of these runs at one listed time, and a reason has a listed time or the first between two of them;
 - an undetermined point names a signal or memory that is in doubt at a time of the window, and the simulation does not hit it where
   nothing is in doubt for it. With all signals dumped nothing is in doubt, except for blocks that read a target before they
   write it, for clocked blocks that read what may change before they run, for those that may run any number of times, and for what
@@ -97,7 +102,7 @@ def keep(program, case, fault, folder):
 def run(program, seed, options, counts, work):
     """Whether the design of a seed has no fault under any of its dumps."""
     is_clocked = options.clocked or options.late
-    asked = is_clocked, options.memories, options.machines, options.drawn, options.late
+    asked = is_clocked, options.memories, options.machines, options.drawn, options.late, options.missing
     case, choices, altered = random_case(seed, options.dumps, *asked)
     trial = Trial(program, work, case, [*choices, case.names])
     try:
@@ -127,6 +132,7 @@ def run(program, seed, options, counts, work):
 def summary(options, counts, faulty):
     """The counts of all runs: first those of the checks, then what nothing was said of."""
     scored, second, refused = (counts.pop(word, 0) for word in ("scored", "other runs", "contradicted"))
+    lacking, hidden = (counts.pop(word, 0) for word in ("lacking inputs", "reasons at hidden times"))
     verdicts, words, drawn = (", ".join(f"{counts.pop(before + word, 0)} {word}" for word in ("hit", "missed", "undetermined"))
                               for before in ("", "words ", "drawn "))
     kind = ("clocked designs" if options.clocked or options.late else "designs") + (" with memories" if options.memories else "")
@@ -134,6 +140,8 @@ def summary(options, counts, faulty):
              f"points: {verdicts}" + (f"; of them words of memories: {words}" if options.memories else "")
              + (f"; of them drawn states and arcs: {drawn}" if options.drawn else ""),
              f"altered dumps: {refused} refused"]
+    if options.missing:
+        lines.append(f"{lacking} dumps lack inputs, and {hidden} reasons have a time that is not listed")
     lines += [", ".join(f"{n} {word}" for word, n in counts.items())] if counts else []
     return "\n".join([*lines, f"{faulty} designs with a fault"])
 
@@ -146,6 +154,7 @@ def main():
     parser.add_argument("--drawn", action="store_true")
     parser.add_argument("--late", action="store_true")
     parser.add_argument("--memories", action="store_true")
+    parser.add_argument("--missing", action="store_true")
     parser.add_argument("--runs", type=int, default=100)
     parser.add_argument("--seed", type=int, default=1)
     parser.add_argument("--dumps", type=int, default=3)

@@ -11,10 +11,9 @@ NAMES = {
     "const": ["NotConstant", "TooWide", "LoopNotConstant", "LoopTooLong", "BadRange"],
     "elab": ["NoModule", "TwoModules", "Recursion", "Undeclared", "TwiceDeclared", "PortMismatch", "TwoDrivers", "MixedAssign",
              "Incomplete", "EventNotBit", "SelfAssign", "Limit", "WrongTarget", "WrongUse"],
-    "points": ["NoState", "SameState", "TooManyPoints", "TooManyStates"],
+    "points": ["NoState", "SameState", "TooManyPoints", "TooManyStates", "NoMachine"],
     "dump": ["BadHeader", "BadChange", "UnknownCode", "VectorTooLong", "TimeBack", "Truncated", "LongCode", "Gap", "DeepScope",
              "DumpTooLong", "TimeTooLarge", "HeaderTooLong"],
-    "bind": ["NoInstance", "InputNotDumped", "NoBaseline"],
     "database": ["BadLine", "WrongVersion", "WrongCount", "DesignsDiffer", "DbTooLong"],
 }
 CALLS = "open_read|read|open_write|write|close_write|print"
@@ -36,7 +35,7 @@ LINES = {
     1: line_of(r"covered: usage: (?:no command|(?:unknown command|unknown word|bad value) (?P<word>.*)|(?P<given>.*) given twice"
                r"|(?P<needs>-\w+) needs a value|missing (?:-t|-i|-v|-vcd|-o|file))"),
     2: line_of(rf"covered: source: (?:{STAGES}|early)(?: (?P<detail>[^\n]*?))?(?: at (?P<file>[^\n]*):(?P<line>\d+):(?P<column>\d+))?"),
-    3: line_of(rf"covered: dump: (?:{numbered('dump')} at byte (?P<byte>\d+)|bind (?:1 NoInstance [^\n]+|(?:2 InputNotDumped|3 NoBaseline) {DOTTED}))"),
+    3: line_of(rf"covered: dump: (?:{numbered('dump')} at byte (?P<byte>\d+)|bind (?:1 NoInstance [^\n]+|3 NoBaseline {DOTTED}))"),
     4: line_of(rf"covered: contradiction: {DOTTED} at \d+: dumped (?P<dumped>[01xz]+), computed (?P<computed>[01xz?]+)"),
     5: line_of(rf"covered: files: (?P<call>{CALLS}) (?P<name>[^\n]+)"),
     6: line_of(r"covered: memory"),

@@ -7,7 +7,13 @@ the step, and it was clear before; or one that is clean, reads what it knows, an
 expression evaluates all operands, only the set of the signals of the first three kinds is to be found: their values are those of
 the simulation, which is a run that shows the dump. A clean block *knows* its trigger and what was clear before and is not early.
 Words of memories are clear by the rules of clocked blocks, and what reads a memory is told by the words that it reads.
+
+An input that the dump lacks is never clear, and may move in each step. Then a time between two listed ones counts too: it is *hidden*,
+and the first between two of them stands for all, since the same may move at these and the same is clear. No block is clean there.
 """
+from bisect import bisect_right
+from dataclasses import replace
+
 from . import vectors
 from .designs import Assignment, BlockProcess, Combinational, Edged
 from .runs import Execution, Outside, differ_in, known_values, partly_executed, visited
@@ -32,7 +38,7 @@ class Knowledge:
 
 
 class Clear:
-    """The clear signals at each listed time before the last."""
+    """The clear signals at each of `times`: those that are listed, without the last, and those that stand for the hidden ones."""
 
     def __init__(self, run, bound, is_late=False):
         self.run, self.flat, self.bound, self.is_late = run, run.flat, set(bound), is_late
@@ -46,16 +52,28 @@ class Clear:
         self.memories = {process: memories_of(mentioned) for process, mentioned in self.mentions.items()}
         self.watched = {process: process.watched() for process in run.flat.processes}
         self.targets = {process: process.targets() for process in run.flat.processes}
-        self.steps = {new.time: (old, new) for old, new in run.window()}
-        self.start()
-        for old, new in run.window():
+        self.times = self.all_times()
+        settled = [replace(run.last(time), time=time) for time in self.times]
+        self.steps = {new.time: (old, new) for old, new in zip(settled, settled[1:])}
+        for it in settled[:1]:
+            self.start(it)
+        for old, new in self.steps.values():
             self.step(old, new)
 
-    def start(self):
-        if self.run.steps:
-            first = self.run.steps[0].time
-            self.changed[first], self.kept[first] = set(), self.bound
-            self.at[first] = self.grow(self.bound, set(), self.run.steps[0].values)
+    def all_times(self):
+        """The times of which the definitions speak; with all inputs dumped nothing moves at those that are no step of the bench."""
+        if not self.run.lacks_input:
+            return self.run.times
+        listed = self.run.dump.times
+        return sorted(listed[:-1] + [time + 1 for time, later in zip(listed, listed[1:]) if time + 1 < later])
+
+    def time(self, time):
+        """The one of `times` that stands for a time of a run."""
+        return self.times[bisect_right(self.times, time) - 1]
+
+    def start(self, first):
+        self.changed[first.time], self.kept[first.time] = set(), self.bound
+        self.at[first.time] = self.grow(self.bound, set(), first.values)
 
     def step(self, old, new):
         """Finds what is clear after a step from what is clear before it."""
@@ -67,9 +85,10 @@ class Clear:
         self.at[new.time] = self.at[old.time] if same else self.grow(kept, changed, new.values)
 
     def knowledge(self, process, old, new):
-        """What a block knows in a step, where it is clean."""
-        wakes = self.wakes[new.time]
-        return Knowledge(process, wakes, self.at[old.time], old, new) if wakes.trigger(process) else None
+        """What a block knows in a step of a run, where it is clean."""
+        time = self.time(new.time)
+        wakes, before = self.wakes[time], self.at[self.steps[time][0].time]
+        return Knowledge(process, wakes, before, old, new) if wakes.trigger(process) else None
 
     def register_values(self, process, old, new):
         """The targets and words of a clocked block that its rule gives a value after a step."""
@@ -126,7 +145,7 @@ class Clear:
             return True
         if writers and isinstance(writers[0], Edged):
             return time in self.steps and signal in self.register_values(writers[0], *self.steps[time])
-        values = next(step.values for step in self.run.steps if step.time == time)
+        values = self.run.last(time).values
         known = self.bound.union(it for it in self.at[time] if isinstance(it, Word))
         if not all(signal not in self.mentions[process] and self.is_told(process, known, values) for process in writers):
             return False
@@ -205,7 +224,8 @@ class Doubts:
     def __init__(self, run, bound, is_late=False):
         self.run, self.clear = run, Clear(run, bound, is_late)
         self.bound = self.clear.bound
-        self.steps, self.listed = self.clear.steps, run.listed()
+        self.steps, self.listed = self.clear.steps, set(run.dump.times)
+        self.all_steps = {**run.listed(), **self.steps}
         self.views, self.visits, self.clocked = {}, {}, {}
 
     def view(self, process, time):
@@ -216,24 +236,30 @@ class Doubts:
 
     def times(self, point):
         """The times at which a point may be open: of a state also those without a step."""
-        return self.listed if point.key[0] == "s" else self.steps
+        return self.all_steps if point.key[0] == "s" else self.steps
 
     def is_clear(self, signal, time):
         """Whether the signal is clear at the start and the end of the step; what is clear stays so at a time without one."""
-        old, new = self.listed[time]
+        old, new = self.all_steps[time]
         return signal in self.clear.at[old.time] and signal in self.clear.at[new.time]
 
     def doubtful(self, point, time):
         """The signals and memories that are in doubt for the point at this time."""
+        time = time if time in self.all_steps else self.clear.time(time)
         if point.signal:
-            return set() if self.is_clear(point.signal, time) else {point.signal}
+            is_doubtful = not self.is_clear(point.signal, time) and self.may_count({point.signal}, time)
+            return {point.signal} if is_doubtful else set()
         return set().union(*(self.block_doubts(process, point.key, time) for process in point.blocks))
+
+    def may_count(self, things, time):
+        """Whether a time is listed, or one of these may move at it."""
+        return time in self.listed or bool(self.clear.wakes[time].may_move & set(things))
 
     def block_doubts(self, process, key, time):
         """What is in doubt for a point of a process at this time."""
         if isinstance(process, Edged):
             return self.clocked_doubts(process, time).of(key)
-        if key not in self.view(process, time).open:
+        if key not in self.view(process, time).open or not self.may_count(self.clear.watched[process], time):
             return set()
         found = {it for it in self.run.wakes[process] if not isinstance(it, Word) and not self.is_clear(it, time)}
         return found | self.clear.own_reads.get(process, set()) | self.doubtful_memories(process, time)

@@ -8,7 +8,7 @@ def run_differences(run, clear):
     """How a simulation breaks a law of what may move, of clean blocks or of what is clear, as texts."""
     found = []
     for old, new in run.window():
-        wakes = clear.wakes[new.time]
+        wakes = clear.wakes[clear.time(new.time)]
         moved = [it for it in run.flat.things() if old.values[it] != new.values[it] and it not in wakes.may_move]
         found += [f"at {new.time} {it.full_name} moves, which it may not" for it in moved]
         for process in run.flat.processes:
@@ -20,7 +20,7 @@ def run_differences(run, clear):
 def block_differences(process, clear, old, new):
     """How the evaluations of a clocked block in a step break a law."""
     entries, name = new.entries.get(process, []), f"the clocked block at line {process.body.line} of {process.scope.path}"
-    if not clear.wakes[new.time].can_wake(process):
+    if not clear.wakes[clear.time(new.time)].can_wake(process):
         return [f"at {new.time} {name} is evaluated, which it cannot be"] if entries else []
     knowledge = clear.knowledge(process, old, new)
     if not knowledge:
@@ -54,19 +54,24 @@ def register_differences(process, knowledge, old, new, name):
 
 
 def clear_differences(run, other, clear):
-    """The signals and words that are clear at a time, and that two runs which show the same dump have with different values."""
-    return [f"at {mine.time} {it.full_name} is {digits_of(mine.values[it])} and in another run {digits_of(its.values[it])}"
-            for mine, its in zip(run.steps, other.steps) for it in clear.at[mine.time] if mine.values[it] != its.values[it]]
+    """The signals and words that are clear at a time, and that a run does not have with the values of another that shows the same dump."""
+    found = []
+    for time in sorted({*clear.times, *other.times}):
+        mine, its = run.last(clear.time(time)).values, other.last(time).values
+        found += [f"at {time} {it.full_name} is {digits_of(mine[it])} and in another run {digits_of(its[it])}"
+                  for it in clear.at[clear.time(time)] if mine[it] != its[it]]
+    return found
 
 
 def account_differences(runs, doubts):
     """What the account of the definitions says of all runs that show a dump, and that does not hold in these, as texts."""
-    found = [text for other in runs[1:] for text in clear_differences(runs[0], other, doubts.clear)]
+    found = [text for other in runs for text in clear_differences(runs[0], other, doubts.clear)]
     hits = [run.hits() for run in runs]
     for point in points_of(runs[0].flat):
         times = [set(point.times(it)) for it in hits]
-        found += [f"{point.address} is hit at {time} in one run and not in another, and nothing is in doubt for it there"
-                  for time in set().union(*times) - set.intersection(*times) if not doubts.doubtful(point, time)]
+        surely = set.intersection(*times) & doubts.listed
+        found += [f"{point.address} is hit at {time}, which need not be, and nothing is in doubt for it there"
+                  for time in set().union(*times) - surely if not doubts.doubtful(point, time)]
         reached = doubts.reached_at(point)
         if reached is not None and not all(reached in it for it in times):
             found.append(f"{point.address} is reached at {reached}, and not hit there in each run")

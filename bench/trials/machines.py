@@ -93,11 +93,13 @@ def machine_hits(run):
     """The times at which each value and each pair of values of a signal with a machine is had, by the signal and its key."""
     found = {}
     for signal in {machine.signal for machine in run.flat.machines}:
-        for time, (old, new) in run.listed().items():
+        for time in run.dump.times[1:-1]:
+            found.setdefault((signal, ("s", run.last(time).values[signal])), []).append(time)
+        for old, new in run.window():
             before, after = old.values[signal], new.values[signal]
-            found.setdefault((signal, ("s", after)), []).append(time)
             if before != after:
-                found.setdefault((signal, ("a", before, after)), []).append(time)
+                found.setdefault((signal, ("s", after)), []).append(new.time)
+                found.setdefault((signal, ("a", before, after)), []).append(new.time)
     return found
 
 

@@ -1,4 +1,7 @@
-"""A dump that says the same in more words: values that do not last, values again, times again, and times without a change."""
+"""A dump that says the same in more words: values that do not last, values again, times again, and times without a change.
+
+More times are not the same where the dump lacks an input, since nothing is hit at one that is not listed.
+"""
 from .icarus import read_dump
 from .vectors import digits_of
 
@@ -42,5 +45,21 @@ def add_noise(file, chance):
         lines += noisy_step(chance, time, step, settled) if chance.random() < 0.7 else [f"#{time}", *step]
         if number + 1 < len(steps) and time + 2 < dump.times[number + 1] and chance.random() < 0.2:
             lines.append(f"#{time + 2}")
+    with open(file, "w", encoding="ascii") as it:
+        it.write(header + END + "\n".join(lines) + "\n")
+
+
+def add_times(file, chance):
+    """Lists more times of a dump, at which it has no change."""
+    share, last = chance.choice([0.0, 0.0, 0.0, 0.05, 0.3, 0.9]), None
+    with open(file, encoding="ascii") as it:
+        header, _, body = it.read().partition(END)
+    lines = []
+    for line in body.splitlines():
+        if line.startswith("#"):
+            time = int(line[1:])
+            lines += [f"#{more}" for more in range(time if last is None else last + 1, time) if chance.random() < share]
+            last = time
+        lines.append(line)
     with open(file, "w", encoding="ascii") as it:
         it.write(header + END + "\n".join(lines) + "\n")

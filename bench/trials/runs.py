@@ -5,6 +5,8 @@ that had to be evaluated in a step was evaluated, with what it writes on settled
 evaluations write on the values that they began with. A difference here is one between Icarus Verilog and `vectors`, `terms` or
 `statements`, and not one of the program.
 """
+from bisect import bisect_right
+
 from . import vectors
 from .designs import Assignment, Combinational, Edged
 from .machines import machine_hits
@@ -121,22 +123,29 @@ def is_value_left(execution, values):
 
 
 class Run:
-    """A simulation under one dump: what is settled at each listed time, from the first on and before the last.
+    """A simulation under one dump: what is settled after each step of the bench from the first listed time on and before the last.
 
-    At a listed time that is no step of the bench nothing of the design moves, so nothing but a state is hit.
+    The dump has the `bound` signals. Steps at times that are not listed count where it lacks an input: else nothing of the design
+    moves there. At a listed time that is no step of the bench nothing but a state is hit.
     """
 
-    def __init__(self, flat, copy, settled, dump):
+    def __init__(self, flat, copy, settled, dump, bound):
         self.flat, self.copy, self.dump = flat, copy, dump
-        by_time = {it.time: it for it in settled}
-        self.steps = [by_time[time] for time in dump.times[:-1] if time in by_time]
+        self.lacks_input = any(it.is_input and it not in bound for it in flat.signals)
+        listed = set(dump.times)
+        self.steps = [it for it in settled if dump.times and dump.times[0] <= it.time < dump.times[-1]
+                      and (self.lacks_input or it.time in listed)]
+        self.times = [it.time for it in self.steps]
         self.wakes = {process: process.wake_masks() for process in flat.processes}
 
     def shows_as(self, other, bound):
-        """Whether another run has the same settled values of the bound signals at these times."""
-        return len(self.steps) == len(other.steps) and all(
-            mine.time == its.time and all(mine.values[it] == its.values[it] for it in bound)
-            for mine, its in zip(self.steps, other.steps))
+        """Whether another run begins at the same time, and has the same settled values of the bound signals from there on."""
+        return self.times[:1] == other.times[:1] and all(
+            self.last(time).values[it] == other.last(time).values[it] for time in {*self.times, *other.times} for it in bound)
+
+    def last(self, time):
+        """The last step at a time or before it."""
+        return self.steps[bisect_right(self.times, time) - 1]
 
     def window(self):
         """Each step of the window with the one before it."""
@@ -144,11 +153,8 @@ class Run:
 
     def listed(self):
         """The listed times of the window, each with its step and the one before; where there is no step, the last one for both."""
-        steps, found, last = {new.time: (old, new) for old, new in self.window()}, {}, self.steps[:1]
-        for time in self.dump.times[1:-1]:
-            found[time] = steps.get(time) or (*last, *last)
-            last = [found[time][1]]
-        return found
+        steps = {new.time: (old, new) for old, new in self.window()}
+        return {time: steps.get(time) or (self.last(time), self.last(time)) for time in self.dump.times[1:-1]}
 
     def probes(self, step):
         """The counted processes with what the simulation says of their last evaluation: its visits and its time.

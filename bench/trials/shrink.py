@@ -20,7 +20,7 @@ def smaller_cases(case):
     yield from fewer_events(case)
     yield from smaller_bodies(case)
     yield from smaller_terms(case)
-    for k in range(len(case.names)):
+    for k in range(len(case.names) if len(case.names) > 1 else 0):
         yield case.with_names(case.names[:k] + case.names[k + 1:], case.altered)
     yield from fewer_declarations(case)
 

@@ -5,7 +5,7 @@ import subprocess
 from collections import Counter
 from dataclasses import dataclass, field, replace
 
-from . import drawings, habits, icarus, laws
+from . import drawings, habits, icarus, laws, missing
 from .clocks import clocked_stimuli
 from .copies import Copy, in_bench
 from .designs import Flat
@@ -15,7 +15,7 @@ from .generator import random_design
 from .habits import FREE, LATE
 from .machine_kinds import random_words
 from .machines import command_words, machine_fault, machines_of
-from .noise import add_noise
+from .noise import add_noise, add_times
 from .points import points_of
 from .runs import Run
 from .stimuli import bench_text, random_stimuli
@@ -53,9 +53,14 @@ class Case:
     drawings: list = field(default_factory=list)
     habits: tuple = (FREE,)
 
-    def others(self, flat):
-        """The steps of the other runs: the inputs move otherwise, and variables begin otherwise, or one of both."""
+    def others(self, flat, lacking):
+        """The steps of the other runs: the inputs move otherwise, and variables begin otherwise, or one of both.
+
+        Those inputs that the dump is `lacking` also have other values, and move at other times.
+        """
         chance = random.Random(self.seed)
+        if lacking:
+            return missing.other_stimuli(self, flat, lacking, chance)
         if LATE in self.habits:
             return habits.other_stimuli(self, flat, chance)
         if not self.clocked:
@@ -95,6 +100,18 @@ def random_names(chance, flat):
     return names
 
 
+def expanded(flat, names):
+    """The names that stand for all, or for all in the scope of the top, where they are such."""
+    return all_names(flat) if names in ([TOP_SCOPE], [ALL_SCOPES]) else names
+
+
+def names_without(chance, flat, names):
+    """The names without those of some inputs, or of all; one name at least."""
+    share = chance.choice([0.3, 0.6, 1.0])
+    left = {name for it in flat.signals if it.is_input and chance.random() < share for name in missing.names_of(flat, it)}
+    return [name for name in names if name not in left] or [chance.choice(all_names(flat))]
+
+
 def dumped(names, known):
     """The arguments of `$dumpvars`, by the levels below them that are dumped."""
     if names in ([TOP_SCOPE], [ALL_SCOPES]):
@@ -114,8 +131,18 @@ class Trial:
         self.refusal = drawings.drawing_fault(self.flat, case.drawings) or machine_fault(self.flat, case.machines)
         if not self.refusal:
             self.flat.machines = machines_of(self.flat, case.machines) + drawings.drawn_machines(self.flat, case.drawings)
-        self.copy, self.others = Copy(self.flat), None
-        self.other_stimuli = case.others(self.flat)
+        self.copy, self.other_stimuli, self.numbers, self.settled = Copy(self.flat), [], {}, {}
+        self.others = [self.other_numbers(names) for names in choices]
+
+    def other_numbers(self, names):
+        """The numbers of the other runs for a dump of these names; where it lacks inputs these have runs of their own."""
+        is_whole = names in ([TOP_SCOPE], [ALL_SCOPES])
+        lacking = () if is_whole else missing.missing_inputs(self.flat, names)
+        if lacking not in self.numbers:
+            before = len(self.other_stimuli)
+            self.other_stimuli += self.case.others(self.flat, lacking)
+            self.numbers[lacking] = range(before, len(self.other_stimuli))
+        return self.numbers[lacking]
 
     def path(self, name):
         return os.path.join(self.folder, name)
@@ -148,25 +175,38 @@ class Trial:
             settled = icarus.simulate(self.folder, self.copy, [f"+dump=dump{number}.vcd", f"+vars{number}."])
         except icarus.SimulationFault as fault:
             return Outcome("not simulated", detail=str(fault))
-        if self.case.noisy:
-            add_noise(self.path(f"dump{number}.vcd"), random.Random(self.case.seed))
-        dump = icarus.read_dump(self.path(f"dump{number}.vcd"))
-        run = Run(self.flat, self.copy, settled, dump)
+        dump, bound = self.read_dump(self.path(f"dump{number}.vcd"))
+        run = Run(self.flat, self.copy, settled, dump, bound)
         differences = run.differences()
         if differences:
             return Outcome("simulated otherwise", detail=differences[0])
-        outcomes = [self.outcome_under(habit, number, run, altered) for habit in self.case.habits[:1 if altered else None]]
-        return outcomes[0] if len(outcomes) == 1 else self.joined(*outcomes)
+        outcomes = []
+        for habit in self.case.habits[:1 if altered else None]:
+            doubts = Doubts(run, bound, habit == LATE)
+            runs = [run] if altered else [run, *self.other_runs(run, bound, habit, self.others[number])]
+            outcomes.append(self.outcome_under(habit, number, runs, doubts, altered))
+        found = outcomes[0] if len(outcomes) == 1 else self.joined(*outcomes)
+        found.counts = {**found.counts, "lacking inputs": int(run.lacks_input and found.word == "scored")}
+        return found
 
-    def outcome_under(self, habit, number, run, altered):
-        """What the dump of a simulation comes to under a habit."""
-        doubts = Doubts(run, icarus.bind(self.flat, run.dump), habit == LATE)
-        runs = [run] if altered else [run, *self.other_runs(run, doubts.bound, habit)]
+    def read_dump(self, file):
+        """A dump that the simulation wrote, after noise was added, and the signals that it has."""
+        if self.case.noisy:
+            add_noise(file, random.Random(self.case.seed))
+        dump = icarus.read_dump(file)
+        bound = set(icarus.bind(self.flat, dump))
+        if all(it in bound for it in self.flat.signals if it.is_input):
+            return dump, bound
+        add_times(file, random.Random(self.case.seed))
+        return icarus.read_dump(file), bound
+
+    def outcome_under(self, habit, number, runs, doubts, altered):
+        """What the dump of a simulation comes to under a habit; all of `runs` show it."""
         differences = [text for it in runs for text in laws.run_differences(it, doubts.clear)]
         if differences:
             return Outcome("simulated against a law", detail=differences[0])
         if altered:
-            return self.altered_outcome(run, doubts, altered)
+            return self.altered_outcome(runs[0], doubts, altered)
         differences = laws.account_differences(runs, doubts)
         if differences:
             return Outcome("scored", Fault("account", "\n".join(differences[:5])))
@@ -185,20 +225,20 @@ class Trial:
         counts = Counter(late.counts) + Counter(free.counts) + Counter({"scored under both habits": 1})
         return Outcome("scored", fault, counts=counts)
 
-    def other_runs(self, run, bound, habit):
+    def other_runs(self, run, bound, habit, numbers):
         """The other runs of a habit that show the same dump; those of the late habit are runs of the free one too."""
-        if self.others is None:
-            self.others = [self.other_settled(number) for number, _ in enumerate(self.other_stimuli)]
-        others = self.others[:habits.OTHERS] if habit == LATE else self.others
-        runs = [Run(self.flat, self.copy, settled, run.dump) for settled in others]
+        others = [self.other_settled(number) for number in (numbers[:habits.OTHERS] if habit == LATE else numbers)]
+        runs = [Run(self.flat, self.copy, settled, run.dump, bound) for settled in others]
         return [it for it in runs if run.shows_as(it, bound) and not it.differences()]
 
     def other_settled(self, number):
         """What is settled in the other run of this number, or nothing where it does not end."""
-        try:
-            return icarus.simulate(self.folder, self.copy, [f"+other{number}."])
-        except icarus.SimulationFault:
-            return []
+        if number not in self.settled:
+            try:
+                self.settled[number] = icarus.simulate(self.folder, self.copy, [f"+other{number}."])
+            except icarus.SimulationFault:
+                self.settled[number] = []
+        return self.settled[number]
 
     def score(self, dump, habit):
         """Runs `covered score`: the status and what it says, or None where it does not end."""
@@ -234,30 +274,30 @@ class Trial:
 
     def altered_outcome(self, run, doubts, altered):
         """What a dump comes to of which one bit is not that of any run."""
-        forced = [(signal, number) for number, step in enumerate(run.steps) for signal in self.flat.signals
-                  if signal in doubts.bound and doubts.clear.forced(signal, step.time)]
+        times = [time for time in doubts.clear.times if time in doubts.listed]
+        forced = [(signal, number) for number, time in enumerate(times) for signal in self.flat.signals
+                  if signal in doubts.bound and doubts.clear.forced(signal, time)]
         if not forced:
             return Outcome("not altered")
         signal, number = forced[altered[0] % len(forced)]
-        self.write_altered(run, doubts, signal, number, altered[1])
+        self.write_altered(run, doubts, signal, times, number, altered[1])
         done = self.score("altered.vcd", self.case.habits[0])
         if done is None:
             return Outcome("altered and not refused", Fault("time", "covered does not end"))
         status, said = done
-        time = run.steps[number].time
+        time = times[number]
         if status == 4 and said.startswith("covered: contradiction: ") and f" at {time}: " in said:
             return Outcome("contradicted")
         text = f"{signal.full_name} is altered at {time}; status {status}: {said}"
         return Outcome("altered and not refused", Fault(f"altered {status}", text))
 
-    def write_altered(self, run, doubts, signal, number, bit):
-        """Writes the dump of a simulation with a bit of a signal changed at one time."""
+    def write_altered(self, run, doubts, signal, times, number, bit):
+        """Writes the dump of a simulation with a bit of a signal changed at one of these times."""
         bound = [it for it in self.flat.signals if it in doubts.bound]
-        values = [{it: digits_of(step.values[it]) for it in bound} for step in run.steps]
+        values = [{it: digits_of(run.last(time).values[it]) for it in bound} for time in times]
         digits = values[number][signal]
         at = bit % len(digits)
         values[number][signal] = digits[:at] + ("0" if digits[at] == "1" else "1") + digits[at + 1:]
-        times = [step.time for step in run.steps]
         icarus.write_dump(self.path("altered.vcd"), icarus.Dump({}, [*times, run.dump.times[-1]], [*values, {}]), bound)
 
 
@@ -269,8 +309,11 @@ def fault_word(text):
     return "?"
 
 
-def random_case(seed, dumps, clocked=False, memories=False, with_machines=False, drawn=False, late=False):
-    """A random design with its bench, so many choices of names to dump, and the numbers that choose what is altered."""
+def random_case(seed, dumps, clocked=False, memories=False, with_machines=False, drawn=False, late=False, lacking=False):
+    """A random design with its bench, so many choices of names to dump, and the numbers that choose what is altered.
+
+    With `lacking` most of the dumps lack inputs.
+    """
     chance, words = random.Random(seed), [] if with_machines else None
     design = random_design(chance, clocked, memories, words, drawn)
     for module in design:
@@ -285,4 +328,8 @@ def random_case(seed, dumps, clocked=False, memories=False, with_machines=False,
     if late:
         case.stimuli = habits.late(stimuli, flat, chance)
         case.habits = chance.choice([(LATE,), (LATE, FREE)])
-    return case, [random_names(chance, flat) for _ in range(dumps)], (chance.randrange(10_000), chance.randrange(128))
+    choices, altered = [random_names(chance, flat) for _ in range(dumps)], (chance.randrange(10_000), chance.randrange(128))
+    if lacking:
+        choices = [names_without(chance, flat, expanded(flat, names)) for names in choices]
+        case.names = names_without(chance, flat, case.names)
+    return case, choices, altered

@@ -58,12 +58,14 @@ class Comparison:
         return check(point, verdict, times)
 
     def decided_fault(self, point, verdict, times):
-        """A point that is hit in no run or in each."""
+        """A point that is hit in no run, or in each at a listed time."""
         for number, found in enumerate(times):
             if verdict == "hit" and not found:
                 return f"run {number} does not hit it"
             if verdict == "missed" and found:
                 return f"run {number} hits it at {found}"
+        if verdict == "hit" and not set.intersection(*map(set, times)) & self.doubts.listed:
+            return f"the runs hit it at {times}, and all of them at no listed time"
         reached = self.doubts.reached_at(point) if verdict == "missed" else None
         return f"its block reaches it at {reached}" if reached is not None else None
 
@@ -73,7 +75,8 @@ class Comparison:
             return "no verdict"
         time, named = int(match[1]), self.named.get(match[2])
         if time not in self.doubts.times(point) or named is None:
-            return "no time of the window, or no signal or memory"
+            return "no time of the window that a reason has, or no signal or memory"
+        self.counts["reasons at hidden times"] += time not in self.doubts.listed
         if named not in self.doubts.doubtful(point, time):
             names = sorted(it.full_name for it in self.doubts.doubtful(point, time))
             return f"not in doubt there; in doubt are {names}"

@@ -1,8 +1,9 @@
 """What may move in a step, which clocked blocks it can wake, and what may change before a clean one is evaluated.
 
-A *single* signal changes at most once in a step, from its old to its new value: an input, and a dumped event signal that one clocked
+A *single* signal changes at most once in a step, from its old to its new value: a dumped input, and a dumped event signal that one clocked
 block writes, at most once on each path, if that block cannot wake or is clean. So there are more of them from round to round, until
 there is none more. Any other event signal may rise and fall within a step, so a block that one can wake is evaluated any number of times.
+An input that the dump lacks may move in each step, and nothing is known of its edges.
 """
 from .designs import Edged
 
@@ -26,16 +27,16 @@ def least(first, processes, targets_of):
 
 
 class Wakes:
-    """What may move in a step in which these inputs change; `edges` has the edges of those that have one bit, and of `told`.
+    """What may move in a step in which these inputs change or may change.
 
-    `told` has the dumped event signals of one bit that are no inputs. By the late habit an input that is no event signal moves too
+    `edges` has the edges of the dumped ones that have one bit, and of `told`. `told` has the dumped event signals of one bit that are no inputs. By the late habit an input that is no event signal moves too
     late to be early for a clean block whose trigger is an input.
     """
 
     def __init__(self, flat, changed, edges, told=(), is_late=False):
         self.processes, self.changed, self.edges, self.chosen = flat.processes, changed, edges, {}
         self.moved_before = changed & events_of(flat) if is_late else changed
-        self.single, more = {it for it in flat.signals if it.is_input}, {None}
+        self.single, more = {it for it in edges if it.is_input}, {None}
         while more:
             self.may_move = least(changed, flat.processes, self.moved_targets)
             more = {it for it in told if it not in self.single and self.is_written_once(it, flat.writers()[it])}
@@ -96,9 +97,9 @@ def events_of(flat):
 def wakes_of(flat, old, new, bound, is_late=False):
     """The wakes of a step from these settled values to those, under a dump of these signals; steps with equal changes of inputs and of
     dumped event signals have the same."""
-    changed = frozenset(it for it in flat.signals if it.is_input and old[it] != new[it])
+    changed = frozenset(it for it in flat.signals if it.is_input and (it not in bound or old[it] != new[it]))
     told = frozenset(it for it in events_of(flat) & bound if not it.is_input and it.width == 1)
-    edges = {it: edge(digit(old[it]), digit(new[it])) for it in changed | told if it.width == 1}
+    edges = {it: edge(digit(old[it]), digit(new[it])) for it in (changed & bound) | told if it.width == 1}
     key = changed, frozenset(edges.items()), is_late
     if key not in flat.known_wakes():
         flat.known_wakes()[key] = Wakes(flat, changed, edges, told, is_late)

@@ -1,5 +1,5 @@
 -- A step in which a store that bodies can run on is that of some state, so that what is proved of all steps can be used.
-use Rattle.std.proofs.Common.{ℕ, Bool, false, List, [], ◌∷◌, Option, Some, None, refl, sym, subst}
+use Rattle.std.proofs.Common.{ℕ, Bool, true, false, List, [], ◌∷◌, Option, Some, None, refl, sym, subst}
 use Rattle.std.proofs.lemmas.List.{append-nil}
 use Rattle.event_machine.specs.Cell.{Values}
 use Rattle.four_state.specs.declared.bit.Bit.{Bit}
@@ -28,6 +28,7 @@ trial d codes time old new early =
       tables = record { watched = λ p. []; clocked = []; order = []; last = [] };
       sets = record { moves = λ x. false; trigger = λ p. None; round = λ p. 0; wakes = λ p. None; early = early };
       time = time;
+      listed = true;
       new = new;
       start = record { kept = λ c. Some (old c); acted = λ p. false; notes = [] };
     }

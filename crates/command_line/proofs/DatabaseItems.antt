@@ -1,12 +1,12 @@
 -- Items, and one more of them.
-use Rattle.std.proofs.Common.{◌≡◌, ◌∙◌, ℕ, ◌≤◌, ◌==◌, Bool, true, false, cond, sym, ap, refl, subst, arith, List, [], ◌∷◌, ◌++◌, length, append_assoc, append-nil, length-append, Option, Some, None}
-use Rattle.std.proofs.lemmas.Bool.{false≢true, eqb-true}
-use Rattle.std.proofs.lemmas.Option.{none-some}
+use Rattle.std.proofs.Common.{◌≡◌, ◌∙◌, ℕ, ◌≤◌, ◌==◌, Bool, true, false, cond, sym, ap, refl, subst, arith, List, [], ◌∷◌, ◌++◌, length, append_assoc, append-nil, length-append, Some, None}
+use Rattle.std.specs.List.{last_or}
+use Rattle.std.proofs.lemmas.Bool.{eqb-true}
 use Rattle.command_line.specs.declared.database_command.DatabaseCommand.{DatabaseCommand}
 use Rattle.command_line.specs.declared.database_option.DatabaseOption.{DatabaseOption}
 use Rattle.command_line.specs.DatabaseOption.{has_room, is_same}
-use Rattle.command_line.specs.DatabaseWords.{Item, file, given, item_words, spelled, files_in, value_in, MayFollow, AreItems}
-use Rattle.command_line.proofs.DatabaseOptions.{is_same-both}
+use Rattle.command_line.specs.DatabaseWords.{Item, file, given, item_words, spelled, files_in, value_in, values_in, MayFollow, AreItems}
+use Rattle.command_line.proofs.GivenLemmas.{last_or-push}
 
 spelled-append : (items more : List Item) → spelled (items ++ more) ≡ spelled items ++ spelled more
 spelled-append [] more = refl
@@ -25,33 +25,28 @@ files_in-append [] more = refl
 files_in-append (file name ∷ items) more = ap (λ files. name ∷ files) (files_in-append items more)
 files_in-append (given option value ∷ items) more = files_in-append items more
 
--- two choices of which not both are made may be made in either order
-swap_choices : {A : Type 0} (first second : Bool) (x y z : A) → (first ≡ true → second ≡ true → ⊥) → cond first x (cond second y z) ≡ cond second y (cond first x z)
-swap_choices true true x y z h = absurd (h refl refl)
-swap_choices true false x y z h = refl
-swap_choices false true x y z h = refl
-swap_choices false false x y z h = refl
-
--- nothing is chosen of a value and an option
-no_choice : {A : Type 0} (b : Bool) (x : A) (o : Option A) → cond b (Some x) o ≡ None → (b ≡ false) × (o ≡ None)
-no_choice true x o h = absurd (none-some x (sym h))
-no_choice false x o h = (refl, h)
+values_in-append : (items more : List Item) (option : DatabaseOption) → values_in (items ++ more) option ≡ values_in items option ++ values_in more option
+values_in-append [] more option = refl
+values_in-append (file name ∷ items) more option = values_in-append items more option
+values_in-append (given other value ∷ items) more option =
+    let rest = values_in-append items more option in
+    elim (is_same other option) as (λ b. cond b (value ∷ values_in (items ++ more) option) (values_in (items ++ more) option) ≡ cond b (value ∷ values_in items option) (values_in items option) ++ values_in more option) [
+      | true ↦ ap (λ values. value ∷ values) rest
+      | false ↦ rest
+    ]
 
 -- a database gives no option a value
 pub value_in-file : (items : List Item) (name : List ℕ) (option : DatabaseOption) → value_in (items ++ file name ∷ []) option ≡ value_in items option
-value_in-file [] name option = refl
-value_in-file (file other ∷ items) name option = value_in-file items name option
-value_in-file (given other value ∷ items) name option = ap (cond (is_same other option) (Some value)) (value_in-file items name option)
+value_in-file items name option = ap (last_or None) (values_in-append items (file name ∷ []) option ∙ append-nil (values_in items option))
 
--- one more option, which had no value
-pub value_in-given : (items : List Item) (option : DatabaseOption) (value : List ℕ) (other : DatabaseOption) → value_in items option ≡ None → value_in (items ++ given option value ∷ []) other ≡ cond (is_same option other) (Some value) (value_in items other)
-value_in-given [] option value other h = refl
-value_in-given (file name ∷ items) option value other h = value_in-given items option value other h
-value_in-given (given first v ∷ items) option value other h =
-    let absent = no_choice (is_same first option) v (value_in items option) h in
-    let more = value_in-given items option value other absent.1 in
-    let apart = λ (p : is_same first other ≡ true) (q : is_same option other ≡ true). false≢true (sym absent.0 ∙ is_same-both first option other p q) in
-    ap (cond (is_same first other) (Some v)) more ∙ swap_choices (is_same first other) (is_same option other) (Some v) (Some value) (value_in items other) apart
+-- after one more option its value is the last
+pub value_in-given : (items : List Item) (option : DatabaseOption) (value : List ℕ) (other : DatabaseOption) → value_in (items ++ given option value ∷ []) other ≡ cond (is_same option other) (Some value) (value_in items other)
+value_in-given items option value other =
+    ap (last_or None) (values_in-append items (given option value ∷ []) other)
+    ∙ elim (is_same option other) as (λ b. last_or None (values_in items other ++ cond b (value ∷ []) []) ≡ cond b (Some value) (last_or None (values_in items other))) [
+      | true ↦ last_or-push None (values_in items other) value
+      | false ↦ ap (last_or None) (append-nil (values_in items other))
+    ]
 
 -- items stay so with one more that may stand behind them
 pub AreItems-push : (command : DatabaseCommand) (before items : List Item) (x : Item) → AreItems command before items → MayFollow command (before ++ items) x → AreItems command before (items ++ x ∷ [])

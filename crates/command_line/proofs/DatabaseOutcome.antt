@@ -1,14 +1,13 @@
 -- What the words of a command that reads databases come to, as a function of them: so they come to one thing only.
-use Rattle.std.proofs.Common.{◌≡◌, ◌∙◌, ℕ, ◌==◌, ◌&&◌, Bool, cond, true, false, sym, ap, refl, inl, inr, List, [], ◌∷◌, ◌++◌, length, append_assoc, append-nil, Option, Some, None, Result, Ok, Err, is_some, codes}
+use Rattle.std.proofs.Common.{◌≡◌, ◌∙◌, ℕ, ◌==◌, ◌&&◌, Bool, cond, true, false, sym, ap, refl, inl, inr, List, [], ◌∷◌, ◌++◌, length, append_assoc, append-nil, Option, Some, None, Result, Ok, Err, codes}
 use Rattle.std.proofs.lemmas.Bool.{and_from, and_left, and_right, cases_Bool}
 use Rattle.command_line.specs.declared.database_command.DatabaseCommand.{DatabaseCommand}
 use Rattle.command_line.specs.declared.database_option.DatabaseOption.{DatabaseOption}
-use Rattle.command_line.specs.declared.database_option.DatabaseOption.TheVariants.{Output}
 use Rattle.command_line.specs.declared.usage_fault.UsageFault.{UsageFault}
 use Rattle.command_line.specs.declared.usage_fault.UsageFault.TheVariants.{NoCommand, UnknownCommand, UnknownWord, GivenTwice, NeedsValue, BadValue, Missing}
-use Rattle.command_line.specs.DatabaseFault.{missing_of, DatabaseFaultAfter, IsNoDatabase}
+use Rattle.command_line.specs.DatabaseFault.{missing_in, DatabaseFaultAfter, IsNoDatabase}
 use Rattle.command_line.specs.DatabaseOption.{accepts, has_room, is_database_name, option_text, takes_value}
-use Rattle.command_line.specs.DatabaseWords.{Item, file, given, value_words, spelled, files_in, value_in, AreItems}
+use Rattle.command_line.specs.DatabaseWords.{Item, file, given, value_words, spelled, files_in, may_follow, AreItems}
 use Rattle.command_line.specs.UsageFault.{usage_text}
 use Rattle.command_line.proofs.DatabaseOptions.{empty_value, named, named_none, named_option, no_option_text}
 
@@ -25,14 +24,14 @@ abbrev pub at_end : List Item → Option (List ℕ) → Outcome
 at_end items None = Ok items
 at_end items (Some word) = Err (codes "missing " ++ word)
 
--- at a word that is this option, if any: what comes next if it is a database, or an option that has no value
+-- at a word that is this option, if any: what comes next if it is a database, or an option that may follow
 abbrev pub at_word : DatabaseCommand → List Item → List ℕ → Option DatabaseOption → Outcome → (DatabaseOption → Outcome) → Outcome
 at_word command items word None next_file next_option = cond (has_place command items word) next_file (Err (codes "unknown word " ++ word))
-at_word command items word (Some option) next_file next_option = cond (is_some (value_in items option)) (Err (word ++ codes " given twice")) (next_option option)
+at_word command items word (Some option) next_file next_option = cond (may_follow items option) (next_option option) (Err (word ++ codes " given twice"))
 
 -- after items
 abbrev pub outcome : DatabaseCommand → List Item → List (List ℕ) → Outcome
-outcome command items [] = at_end items (missing_of command (value_in items Output) (files_in items))
+outcome command items [] = at_end items (missing_in command items)
 outcome command items (word ∷ []) =
     at_word command items word (named command word) (outcome command (items ++ file word ∷ []) [])
     (λ option. cond (takes_value option) (Err (word ++ codes " needs a value")) (outcome command (items ++ given option [] ∷ []) []))
@@ -46,21 +45,21 @@ outcome-file command items word [] none has = rw (none, has)
 outcome-file command items word (value ∷ left) none has = rw (none, has)
 
 -- an option without a value is read
-outcome-flag : (command : DatabaseCommand) (items : List Item) (word : List ℕ) (option : DatabaseOption) (rest : List (List ℕ)) → named command word ≡ Some option → value_in items option ≡ None → takes_value option ≡ false → outcome command items (word ∷ rest) ≡ outcome command (items ++ given option [] ∷ []) rest
-outcome-flag command items word option [] is absent none = rw (is, absent, none)
-outcome-flag command items word option (value ∷ left) is absent none = rw (is, absent, none)
+outcome-flag : (command : DatabaseCommand) (items : List Item) (word : List ℕ) (option : DatabaseOption) (rest : List (List ℕ)) → named command word ≡ Some option → may_follow items option ≡ true → takes_value option ≡ false → outcome command items (word ∷ rest) ≡ outcome command (items ++ given option [] ∷ []) rest
+outcome-flag command items word option [] is may none = rw (is, may, none)
+outcome-flag command items word option (value ∷ left) is may none = rw (is, may, none)
 
 -- an option is read with its value
-outcome-given : (command : DatabaseCommand) (items : List Item) (word : List ℕ) (option : DatabaseOption) (value : List ℕ) (rest : List (List ℕ)) → named command word ≡ Some option → value_in items option ≡ None → accepts option value ≡ true → outcome command items (word ∷ value_words option value ++ rest) ≡ outcome command (items ++ given option value ∷ []) rest
-outcome-given command items word option value rest is absent form =
+outcome-given : (command : DatabaseCommand) (items : List Item) (word : List ℕ) (option : DatabaseOption) (value : List ℕ) (rest : List (List ℕ)) → named command word ≡ Some option → may_follow items option ≡ true → accepts option value ≡ true → outcome command items (word ∷ value_words option value ++ rest) ≡ outcome command (items ++ given option value ∷ []) rest
+outcome-given command items word option value rest is may form =
     elim (cases_Bool (takes_value option)) [ inl takes ↦ with_value takes | inr none ↦ without none ]
   where
     with_value : takes_value option ≡ true → outcome command items (word ∷ value_words option value ++ rest) ≡ outcome command (items ++ given option value ∷ []) rest
-    with_value takes = ap (λ b. outcome command items (word ∷ cond b (value ∷ []) [] ++ rest)) takes ∙ rw (is, absent, takes, form)
+    with_value takes = ap (λ b. outcome command items (word ∷ cond b (value ∷ []) [] ++ rest)) takes ∙ rw (is, may, takes, form)
 
     without : takes_value option ≡ false → outcome command items (word ∷ value_words option value ++ rest) ≡ outcome command (items ++ given option value ∷ []) rest
     without none =
-        ap (λ b. outcome command items (word ∷ cond b (value ∷ []) [] ++ rest)) none ∙ outcome-flag command items word option rest is absent none
+        ap (λ b. outcome command items (word ∷ cond b (value ∷ []) [] ++ rest)) none ∙ outcome-flag command items word option rest is may none
         ∙ ap (λ v. outcome command (items ++ given option v ∷ []) rest) (sym (empty_value option value none form))
 
 -- items are read one by one
@@ -89,7 +88,7 @@ outcome-unknown : (command : DatabaseCommand) (items : List Item) (word : List �
 outcome-unknown command items word [] none full = rw (none, full)
 outcome-unknown command items word (value ∷ left) none full = rw (none, full)
 
-outcome-twice : (command : DatabaseCommand) (items : List Item) (word : List ℕ) (option : DatabaseOption) (rest : List (List ℕ)) → named command word ≡ Some option → is_some (value_in items option) ≡ true → outcome command items (word ∷ rest) ≡ Err (word ++ codes " given twice")
+outcome-twice : (command : DatabaseCommand) (items : List Item) (word : List ℕ) (option : DatabaseOption) (rest : List (List ℕ)) → named command word ≡ Some option → may_follow items option ≡ false → outcome command items (word ∷ rest) ≡ Err (word ++ codes " given twice")
 outcome-twice command items word option [] is has = rw (is, has)
 outcome-twice command items word option (value ∷ left) is has = rw (is, has)
 

@@ -82,7 +82,7 @@ values_in-append (x ∷ given) more option =
 values_in-length : (given more : List GivenOption) (option : ScoreOption) → length (values_in (given ++ more) option) ≡ length (values_in given option) + length (values_in more option)
 values_in-length given more option = ap length (values_in-append given more option) ∙ length-append (values_in given option) (values_in more option)
 
-last_or-push : (before : Option (List ℕ)) (values : List (List ℕ)) (value : List ℕ) → last_or before (values ++ value ∷ []) ≡ Some value
+pub last_or-push : (before : Option (List ℕ)) (values : List (List ℕ)) (value : List ℕ) → last_or before (values ++ value ∷ []) ≡ Some value
 last_or-push before [] value = refl
 last_or-push before (first ∷ values) value = last_or-push (Some first) values value
 

@@ -13,3 +13,5 @@ pub mod OneCommand
 pub mod LcovReading
 pub mod Names
 pub mod RankReading
+pub mod AddressesAmong
+pub mod PointReading

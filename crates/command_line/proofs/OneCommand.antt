@@ -1,17 +1,21 @@
 -- Words are one command at most.
-use Rattle.std.proofs.Common.{◌≡◌, ◌∙◌, ℕ, Bool, true, false, List, Option, Some, None, refl, sym, ap}
+use Rattle.std.proofs.Common.{◌≡◌, ◌∙◌, ℕ, Bool, true, false, List, [], ◌∷◌, Option, Some, None, refl, sym, ap, codes}
 use Rattle.std.specs.List.{last_or}
+use Rattle.std.specs.Str.{bytes_eq}
+use Rattle.std.proofs.lemmas.Bool.{false≢true}
+use Rattle.std.proofs.lemmas.Slice.Eq.{bytes_eq-Decides}
 use Rattle.command_line.specs.declared.report_level.ReportLevel.{ReportLevel}
 use Rattle.command_line.specs.declared.report_metrics.ReportMetrics.{ReportMetrics}
-use Rattle.command_line.specs.Command.{AreWordsOf, CommandValues, score, merge, report, lcov, rank}
+use Rattle.command_line.specs.Command.{AreWordsOf, CommandValues, score, merge, report, lcov, rank, exclude, restore}
 use Rattle.command_line.specs.CommandWords.{at_most_one, flag_values, AreValues, GivenOption, IsScore, ScoreValues}
 use Rattle.command_line.specs.Define.{Define}
 use Rattle.command_line.specs.DrawingWords.{DrawingNames}
 use Rattle.command_line.specs.MachineWords.{MachineNames}
 use Rattle.command_line.specs.DatabaseWords.{AreMergeValues, AreReportValues, IsMerge, IsReport, Item, MergeValues, ReportValues}
 use Rattle.command_line.specs.LcovWords.{AreLcovValues, IsLcov, LcovValues}
+use Rattle.command_line.specs.PointWords.{ArePointValues, IsExclude, IsRestore, PointValues}
 use Rattle.command_line.specs.RankWords.{AreRankValues, IsRank, RankValues}
-use Rattle.command_line.proofs.Outcome.{outcome_of-score, outcome_of-merge, outcome_of-report, outcome_of-lcov, outcome_of-rank}
+use Rattle.command_line.proofs.Outcome.{outcome_of-score, outcome_of-merge, outcome_of-report, outcome_of-lcov, outcome_of-rank, outcome_of-exclude, outcome_of-restore}
 
 -- the values as one
 all_values : (top instance : List ℕ) (sources : List (List ℕ)) (defines : List Define) (folder : Option (List ℕ)) (dump output : List ℕ) (machines : List MachineNames) (drawings : List DrawingNames) (late : Bool) → ScoreValues
@@ -98,30 +102,63 @@ one_rank words a b is_a is_b =
     let same : is_b.0 ≡ is_a.0 = cc in
     one_rank_values is_a.0 a b is_a.2 (rw (same) at is_b.2)
 
--- words of one kind of command are none of another kind
+points_of : (output : List ℕ) (addresses : List (List ℕ)) (file : List ℕ) → PointValues
+points_of output addresses file = record { output = output; addresses = addresses; file = file }
+
+one_point_values : (items : List Item) (a b : PointValues) → ArePointValues items a → ArePointValues items b → a ≡ b
+unfolding points_of
+one_point_values items a b are_a are_b =
+    let e : points_of a.output a.addresses a.file ≡ points_of b.output b.addresses b.file = cc in e
+
+pub one_exclude : (words : List (List ℕ)) (a b : PointValues) → IsExclude words a → IsExclude words b → a ≡ b
+one_exclude words a b is_a is_b =
+    let e = sym (outcome_of-exclude words a is_a) ∙ outcome_of-exclude words b is_b in
+    let same : is_b.0 ≡ is_a.0 = cc in
+    one_point_values is_a.0 a b is_a.2 (rw (same) at is_b.2)
+
+pub one_restore : (words : List (List ℕ)) (a b : PointValues) → IsRestore words a → IsRestore words b → a ≡ b
+one_restore words a b is_a is_b =
+    let e = sym (outcome_of-restore words a is_a) ∙ outcome_of-restore words b is_b in
+    let same : is_b.0 ≡ is_a.0 = cc in
+    one_point_values is_a.0 a b is_a.2 (rw (same) at is_b.2)
+
+-- ---- words of one kind of command are none of another kind
+
+-- the word that the command begins with
+name_of : CommandValues → List ℕ
+name_of (score values) = codes "score"
+name_of (merge values) = codes "merge"
+name_of (report values) = codes "report"
+name_of (lcov values) = codes "lcov"
+name_of (rank values) = codes "rank"
+name_of (exclude values) = codes "exclude"
+name_of (restore values) = codes "restore"
+
+first_word : List (List ℕ) → List ℕ
+first_word [] = []
+first_word (word ∷ words) = word
+
+named_by_first : (words : List (List ℕ)) (values : CommandValues) → AreWordsOf values words → first_word words ≡ name_of values
+unfolding name_of first_word
+named_by_first words (score values) is = ap first_word is.1.spells
+named_by_first words (merge values) is = ap first_word is.1.spells
+named_by_first words (report values) is = ap first_word is.1.spells
+named_by_first words (lcov values) is = ap first_word is.1.spells
+named_by_first words (rank values) is = ap first_word is.1.spells
+named_by_first words (exclude values) is = ap first_word is.1.spells
+named_by_first words (restore values) is = ap first_word is.1.spells
+
+one_of_name : (words : List (List ℕ)) (a b : CommandValues) → bytes_eq (name_of a) (name_of b) ≡ true → AreWordsOf a words → AreWordsOf b words → a ≡ b
+unfolding name_of
+one_of_name words (score a) (score b) same is_a is_b = ap score (one_command words a b is_a is_b)
+one_of_name words (merge a) (merge b) same is_a is_b = ap merge (one_merge words a b is_a is_b)
+one_of_name words (report a) (report b) same is_a is_b = ap report (one_report words a b is_a is_b)
+one_of_name words (lcov a) (lcov b) same is_a is_b = ap lcov (one_lcov words a b is_a is_b)
+one_of_name words (rank a) (rank b) same is_a is_b = ap rank (one_rank words a b is_a is_b)
+one_of_name words (exclude a) (exclude b) same is_a is_b = ap exclude (one_exclude words a b is_a is_b)
+one_of_name words (restore a) (restore b) same is_a is_b = ap restore (one_restore words a b is_a is_b)
+one_of_name words a b same is_a is_b = absurd (false≢true same)
+
 pub one_of_all : (words : List (List ℕ)) (a b : CommandValues) → AreWordsOf a words → AreWordsOf b words → a ≡ b
-one_of_all words (score a) (score b) is_a is_b = ap score (one_command words a b is_a is_b)
-one_of_all words (merge a) (merge b) is_a is_b = ap merge (one_merge words a b is_a is_b)
-one_of_all words (report a) (report b) is_a is_b = ap report (one_report words a b is_a is_b)
-one_of_all words (score a) (merge b) is_a is_b = let e = sym (outcome_of-score words a is_a) ∙ outcome_of-merge words b is_b in cc
-one_of_all words (score a) (report b) is_a is_b = let e = sym (outcome_of-score words a is_a) ∙ outcome_of-report words b is_b in cc
-one_of_all words (merge a) (score b) is_a is_b = let e = sym (outcome_of-merge words a is_a) ∙ outcome_of-score words b is_b in cc
-one_of_all words (merge a) (report b) is_a is_b = let e = sym (outcome_of-merge words a is_a) ∙ outcome_of-report words b is_b in cc
-one_of_all words (report a) (score b) is_a is_b = let e = sym (outcome_of-report words a is_a) ∙ outcome_of-score words b is_b in cc
-one_of_all words (report a) (merge b) is_a is_b = let e = sym (outcome_of-report words a is_a) ∙ outcome_of-merge words b is_b in cc
-one_of_all words (lcov a) (lcov b) is_a is_b = ap lcov (one_lcov words a b is_a is_b)
-one_of_all words (lcov a) (score b) is_a is_b = let e = sym (outcome_of-lcov words a is_a) ∙ outcome_of-score words b is_b in cc
-one_of_all words (score a) (lcov b) is_a is_b = let e = sym (outcome_of-score words a is_a) ∙ outcome_of-lcov words b is_b in cc
-one_of_all words (lcov a) (merge b) is_a is_b = let e = sym (outcome_of-lcov words a is_a) ∙ outcome_of-merge words b is_b in cc
-one_of_all words (merge a) (lcov b) is_a is_b = let e = sym (outcome_of-merge words a is_a) ∙ outcome_of-lcov words b is_b in cc
-one_of_all words (lcov a) (report b) is_a is_b = let e = sym (outcome_of-lcov words a is_a) ∙ outcome_of-report words b is_b in cc
-one_of_all words (report a) (lcov b) is_a is_b = let e = sym (outcome_of-report words a is_a) ∙ outcome_of-lcov words b is_b in cc
-one_of_all words (rank a) (rank b) is_a is_b = ap rank (one_rank words a b is_a is_b)
-one_of_all words (rank a) (score b) is_a is_b = let e = sym (outcome_of-rank words a is_a) ∙ outcome_of-score words b is_b in cc
-one_of_all words (score a) (rank b) is_a is_b = let e = sym (outcome_of-score words a is_a) ∙ outcome_of-rank words b is_b in cc
-one_of_all words (rank a) (merge b) is_a is_b = let e = sym (outcome_of-rank words a is_a) ∙ outcome_of-merge words b is_b in cc
-one_of_all words (merge a) (rank b) is_a is_b = let e = sym (outcome_of-merge words a is_a) ∙ outcome_of-rank words b is_b in cc
-one_of_all words (rank a) (report b) is_a is_b = let e = sym (outcome_of-rank words a is_a) ∙ outcome_of-report words b is_b in cc
-one_of_all words (report a) (rank b) is_a is_b = let e = sym (outcome_of-report words a is_a) ∙ outcome_of-rank words b is_b in cc
-one_of_all words (rank a) (lcov b) is_a is_b = let e = sym (outcome_of-rank words a is_a) ∙ outcome_of-lcov words b is_b in cc
-one_of_all words (lcov a) (rank b) is_a is_b = let e = sym (outcome_of-lcov words a is_a) ∙ outcome_of-rank words b is_b in cc
+one_of_all words a b is_a is_b =
+    one_of_name words a b ((bytes_eq-Decides (name_of a) (name_of b)).1 (sym (named_by_first words a is_a) ∙ named_by_first words b is_b)) is_a is_b

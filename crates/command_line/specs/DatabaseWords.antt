@@ -1,7 +1,8 @@
 -- The words of a command that reads databases.
-use Rattle.std.specs.Prelude.{◌≡◌, ◌≢◌, ◌==◌, ℕ, Bool, if◌then◌else◌, IsTrue, List, [], ◌∷◌, ◌++◌, length, Option, Some, None, is_some, codes}
+use Rattle.std.specs.Prelude.{◌≡◌, ◌≢◌, ◌==◌, ◌||◌, ℕ, Bool, if◌then◌else◌, IsTrue, List, [], ◌∷◌, ◌++◌, length, Option, Some, None, is_none, is_some, codes}
+use Rattle.std.specs.List.{last_or}
 use Rattle.command_line.specs.declared.database_command.DatabaseCommand.{DatabaseCommand}
-use Rattle.command_line.specs.declared.database_command.DatabaseCommand.TheVariants.{Merge, Report, Lcov, Rank}
+use Rattle.command_line.specs.declared.database_command.DatabaseCommand.TheVariants.{Merge, Report, Lcov, Rank, Exclude, Restore}
 use Rattle.command_line.specs.declared.database_option.DatabaseOption.{DatabaseOption}
 use Rattle.command_line.specs.declared.database_option.DatabaseOption.TheVariants.{Level, Metrics, ByInstance, Covered, Output}
 use Rattle.command_line.specs.declared.merge_words.MergeWords.{MergeWords}
@@ -9,7 +10,7 @@ use Rattle.command_line.specs.declared.report_level.ReportLevel.{ReportLevel}
 use Rattle.command_line.specs.declared.report_metrics.ReportMetrics.{ReportMetrics}
 use Rattle.command_line.specs.declared.report_words.ReportWords.{ReportWords}
 use Rattle.command_line.specs.DatabaseFiles.{files_of}
-use Rattle.command_line.specs.DatabaseOption.{accepts, has_option, has_room, is_database_name, is_same, option_text, takes_value}
+use Rattle.command_line.specs.DatabaseOption.{accepts, has_option, has_room, is_database_name, is_same, option_text, repeats, takes_value}
 use Rattle.command_line.specs.ReportLevel.{level_of}
 use Rattle.command_line.specs.ReportMetrics.{metrics_of}
 use Rattle.std.specs.Option.{option_copied}
@@ -38,16 +39,24 @@ files_in [] = []
 files_in (file name ∷ items) = name ∷ files_in items
 files_in (given option value ∷ items) = files_in items
 
--- the value that an option was given
-abbrev pub value_in : List Item → DatabaseOption → Option (List ℕ)
-value_in [] option = None
-value_in (file name ∷ items) option = value_in items option
-value_in (given other value ∷ items) option = if is_same other option then Some value else value_in items option
+-- the values that an option was given, in order
+abbrev pub values_in : List Item → DatabaseOption → List (List ℕ)
+values_in [] option = []
+values_in (file name ∷ items) option = values_in items option
+values_in (given other value ∷ items) option = if is_same other option then value ∷ values_in items option else values_in items option
 
--- the item may follow these: a database where there is room, or an option of the command, once, with a value of its form
+-- the value that an option was given last
+abbrev pub value_in : List Item → DatabaseOption → Option (List ℕ)
+value_in items option = last_or None (values_in items option)
+
+-- the option may follow these: it repeats, or has no value in them
+abbrev pub may_follow : List Item → DatabaseOption → Bool
+may_follow items option = repeats option || is_none (value_in items option)
+
+-- the item may follow these: a database where there is room, or an option of the command with a value of its form, once where it does not repeat
 abbrev pub MayFollow : DatabaseCommand → List Item → Item → Type 0
 MayFollow command before (file name) = IsTrue (is_database_name name) × IsTrue (has_room command (length (files_in before) == 0))
-MayFollow command before (given option value) = IsTrue (has_option command option) × (value_in before option ≡ None) × IsTrue (accepts option value)
+MayFollow command before (given option value) = IsTrue (has_option command option) × IsTrue (may_follow before option) × IsTrue (accepts option value)
 
 -- each of the items may follow those before it
 abbrev pub AreItems : DatabaseCommand → List Item → List Item → Type 0
@@ -59,6 +68,8 @@ command_text Merge = codes "merge"
 command_text Report = codes "report"
 command_text Lcov = codes "lcov"
 command_text Rank = codes "rank"
+command_text Exclude = codes "exclude"
+command_text Restore = codes "restore"
 
 -- the words are the command, items, and what is left
 pub record IsUpTo (command : DatabaseCommand) (words : List (List ℕ)) (items : List Item) (left : List (List ℕ)) : Type 0 where

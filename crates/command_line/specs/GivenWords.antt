@@ -1,27 +1,38 @@
 -- What was read so far of the words of a command that reads databases.
-use Rattle.std.specs.Prelude.{◌≡◌, ◌≢◌, ◌==◌, ℕ, false, List, [], ◌∷◌, ◌++◌, length, Option, Some, None, is_some, unwrap_or}
+use Rattle.std.specs.Prelude.{◌≡◌, ◌≢◌, ◌==◌, ◌||◌, ℕ, Bool, false, List, [], ◌∷◌, ◌++◌, length, Option, Some, None, is_none, is_some, unwrap_or}
 use Rattle.std.specs.Borrow.{Bor}
 use Rattle.std.specs.Option.{option_copied}
 use Rattle.command_line.specs.declared.database_command.DatabaseCommand.{DatabaseCommand}
 use Rattle.command_line.specs.declared.database_files.DatabaseFiles.{DatabaseFiles}
 use Rattle.command_line.specs.declared.database_option.DatabaseOption.{DatabaseOption}
-use Rattle.command_line.specs.declared.database_option.DatabaseOption.TheVariants.{Level, Metrics, ByInstance, Covered, Output}
+use Rattle.command_line.specs.declared.database_option.DatabaseOption.TheVariants.{Level, Metrics, ByInstance, Covered, Output, Point}
 use Rattle.command_line.specs.declared.given_words.GivenWords.{GivenWords}
 use Rattle.command_line.specs.declared.merge_words.MergeWords.{MergeWords}
 use Rattle.command_line.specs.declared.report_words.ReportWords.{ReportWords}
 use Rattle.command_line.specs.DatabaseFault.{missing_of}
 use Rattle.command_line.specs.DatabaseFiles.{files_among, files_of}
-use Rattle.command_line.specs.DatabaseWords.{Item, files_in, value_in, IsUpTo}
+use Rattle.command_line.specs.DatabaseOption.{repeats}
+use Rattle.command_line.specs.DatabaseWords.{Item, command_text, files_in, value_in, IsUpTo}
 use Rattle.command_line.specs.ReportLevel.{level_of}
 use Rattle.command_line.specs.ReportMetrics.{metrics_of}
+use Rattle.command_line.specs.WordsLeft.{left_words}
 
--- the value of an option
+-- the value that an option was given last
 abbrev pub value_of : GivenWords → DatabaseOption → Option (List ℕ)
 value_of given Level = option_copied given.level
 value_of given Metrics = option_copied given.metrics
 value_of given ByInstance = option_copied given.by_instance
 value_of given Covered = option_copied given.covered
 value_of given Output = option_copied given.output
+value_of given Point = option_copied given.point
+
+-- one more value of the option may be given
+abbrev pub has_room_for : GivenWords → DatabaseOption → Bool
+has_room_for given option = repeats option || is_none (value_of given option)
+
+-- all words after the command
+abbrev pub all_words : GivenWords → List (List ℕ)
+all_words given = left_words given.words
 
 abbrev pub files_behind : Option (Bor (List ℕ)) → DatabaseFiles → Option (List (List ℕ))
 files_behind None others = None
@@ -40,6 +51,7 @@ AreFiles (Some all) read left = (all ≡ read ++ left) × ((length read == 0) �
 pub record HasRead (command : DatabaseCommand) (words left : List (List ℕ)) (given : GivenWords) : Type 0 where
   pub items : List Item
   pub up_to : IsUpTo command words items left
+  pub all : words ≡ command_text command ∷ all_words given
   pub same : (option : DatabaseOption) → value_in items option ≡ value_of given option
   pub files : AreFiles (files_from given) (files_in items) (files_among left)
 
@@ -61,4 +73,4 @@ pub record GivesReport (given : GivenWords) (report : ReportWords) : Type 0 wher
 
 -- the word is the first that is missing at the end of the words
 abbrev pub IsMissing : DatabaseCommand → GivenWords → List ℕ → Type 0
-IsMissing command given word = missing_of command (value_of given Output) (unwrap_or (files_from given) []) ≡ Some word
+IsMissing command given word = missing_of command (value_of given Output) (value_of given Point) (unwrap_or (files_from given) []) ≡ Some word

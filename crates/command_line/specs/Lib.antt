@@ -17,4 +17,6 @@ pub mod Command
 pub mod GivenValues
 pub mod GivenWords
 pub mod LcovWords
+pub mod PointAddresses
+pub mod PointWords
 pub mod RankWords

@@ -4,7 +4,7 @@ use Rattle.std.specs.List.{find}
 use Rattle.command_line.specs.declared.score_option.ScoreOption.{ScoreOption}
 use Rattle.command_line.specs.declared.usage_fault.UsageFault.{UsageFault}
 use Rattle.command_line.specs.declared.usage_fault.UsageFault.TheVariants.{NoCommand, UnknownCommand, UnknownWord, GivenTwice, NeedsValue, BadValue, Missing}
-use Rattle.command_line.specs.declared.database_command.DatabaseCommand.TheVariants.{Merge, Report, Lcov, Rank}
+use Rattle.command_line.specs.declared.database_command.DatabaseCommand.TheVariants.{Merge, Report, Lcov, Rank, Exclude, Restore}
 use Rattle.command_line.specs.DatabaseFault.{HasDatabaseFault}
 use Rattle.command_line.specs.ScoreOption.{required, option_text, accepts, takes_value}
 use Rattle.command_line.specs.CommandWords.{GivenOption, is_absent, may_follow, IsScoreUpTo}
@@ -64,11 +64,13 @@ HasScoreFault words fault = (given : List GivenOption) × (left : List (List ℕ
 
 -- the word names no command
 abbrev pub NamesNoCommand : List ℕ → Type 0
-NamesNoCommand word = (word ≢ codes "score") × (word ≢ codes "merge") × (word ≢ codes "report") × (word ≢ codes "lcov") × (word ≢ codes "rank")
+NamesNoCommand word =
+    (word ≢ codes "score") × (word ≢ codes "merge") × (word ≢ codes "report") × (word ≢ codes "lcov") × (word ≢ codes "rank") × (word ≢ codes "exclude") × (word ≢ codes "restore")
 
 -- the words are no command, and this is their first fault from the left
 abbrev pub HasUsageFault : List (List ℕ) → UsageFault → Type 0
 HasUsageFault words NoCommand = words ≡ []
 HasUsageFault words (UnknownCommand word) = BeginsWith word.now words × NamesNoCommand word.now
 HasUsageFault words fault =
-    HasScoreFault words fault ⊎ HasDatabaseFault Merge words fault ⊎ HasDatabaseFault Report words fault ⊎ HasDatabaseFault Lcov words fault ⊎ HasDatabaseFault Rank words fault
+    HasScoreFault words fault ⊎ HasDatabaseFault Merge words fault ⊎ HasDatabaseFault Report words fault ⊎ HasDatabaseFault Lcov words fault
+    ⊎ HasDatabaseFault Rank words fault ⊎ HasDatabaseFault Exclude words fault ⊎ HasDatabaseFault Restore words fault

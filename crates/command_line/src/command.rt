@@ -5,10 +5,14 @@ ghost use Rattle.command_line.specs.ScoreOption.{takes_value};
 ghost use Rattle.command_line.specs.UsageFault.{HasScoreFault, HasUsageFault};
 ghost use Rattle.command_line.specs.WordsLeft.{left_words};
 
-use crate::database_words::{read_lcov, read_merge, read_rank, read_report};
+use crate::database_words::{
+    read_exclude, read_lcov, read_merge, read_rank, read_report, read_restore,
+};
 use crate::given_values::GivenValues;
 use crate::words_left::WordsLeft;
-use crate::{LcovWords, MergeWords, RankWords, ReportWords, ScoreOption, ScoreWords, UsageFault};
+use crate::{
+    LcovWords, MergeWords, PointWords, RankWords, ReportWords, ScoreOption, ScoreWords, UsageFault,
+};
 use cov_host::Words;
 
 /// A command with its values.
@@ -24,6 +28,10 @@ pub enum Command<'a> {
     Lcov(LcovWords<'a>),
     /// Prints the order in which the tests of databases are worth running.
     Rank(RankWords<'a>),
+    /// Takes points out of the totals of a report.
+    Exclude(PointWords<'a>),
+    /// Takes points back into the totals of a report.
+    Restore(PointWords<'a>),
 }
 
 /// Reads the words that follow the name of the program. It takes no memory. The fault is the first one from
@@ -40,6 +48,8 @@ pub fn read_command<'a>(words: &'a Words) -> Result<Command<'a>, UsageFault<'a>>
         Some("report") => read_report(&mut left).map(Command::Report),
         Some("lcov") => read_lcov(&mut left).map(Command::Lcov),
         Some("rank") => read_rank(&mut left).map(Command::Rank),
+        Some("exclude") => read_exclude(&mut left).map(Command::Exclude),
+        Some("restore") => read_restore(&mut left).map(Command::Restore),
         Some(word) => Err(UsageFault::UnknownCommand(word)),
     }
 }

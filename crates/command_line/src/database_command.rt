@@ -14,6 +14,10 @@ pub enum DatabaseCommand {
     Lcov,
     /// Prints the order in which the tests of databases are worth running.
     Rank,
+    /// Takes points out of the totals of a report.
+    Exclude,
+    /// Takes points back into the totals of a report.
+    Restore,
 }
 
 impl DatabaseCommand {
@@ -36,9 +40,12 @@ impl DatabaseCommand {
     {
         match self {
             DatabaseCommand::Merge => option == DatabaseOption::Output,
-            DatabaseCommand::Report => true,
+            DatabaseCommand::Report => option != DatabaseOption::Point,
             DatabaseCommand::Lcov => option == DatabaseOption::Output,
             DatabaseCommand::Rank => false,
+            DatabaseCommand::Exclude | DatabaseCommand::Restore => {
+                matches!(option, DatabaseOption::Output | DatabaseOption::Point)
+            }
         }
     }
 
@@ -47,10 +54,10 @@ impl DatabaseCommand {
         ensures { result ≡ has_room self is_first }
     {
         match self {
-            DatabaseCommand::Merge => true,
+            DatabaseCommand::Merge | DatabaseCommand::Rank => true,
             DatabaseCommand::Report => is_first,
             DatabaseCommand::Lcov => is_first,
-            DatabaseCommand::Rank => true,
+            DatabaseCommand::Exclude | DatabaseCommand::Restore => is_first,
         }
     }
 }

@@ -1,5 +1,5 @@
 ghost use Rattle.std.specs.Prelude.{◌≡◌, ◌≢◌, IfSome, IfNone};
-ghost use Rattle.command_line.specs.DatabaseOption.{accepts, option_text, takes_value};
+ghost use Rattle.command_line.specs.DatabaseOption.{accepts, option_text, repeats, takes_value};
 
 use crate::is_file_name;
 use crate::report_level::ReportLevel;
@@ -18,6 +18,8 @@ pub enum DatabaseOption {
     Covered,
     /// The file that is written.
     Output,
+    /// The address of a point. It may be repeated.
+    Point,
 }
 
 impl DatabaseOption {
@@ -32,7 +34,19 @@ impl DatabaseOption {
             "-i" => Some(DatabaseOption::ByInstance),
             "-c" => Some(DatabaseOption::Covered),
             "-o" => Some(DatabaseOption::Output),
+            "-point" => Some(DatabaseOption::Point),
             _ => None,
+        }
+    }
+
+    /// Whether the option may be repeated.
+    pub fn repeats(self) -> bool
+        ensures { result ≡ repeats self }
+    {
+        match self {
+            DatabaseOption::Point => true,
+            DatabaseOption::Level | DatabaseOption::Metrics | DatabaseOption::ByInstance => false,
+            DatabaseOption::Covered | DatabaseOption::Output => false,
         }
     }
 
@@ -41,7 +55,8 @@ impl DatabaseOption {
         ensures { result ≡ takes_value self }
     {
         match self {
-            DatabaseOption::Level | DatabaseOption::Metrics | DatabaseOption::Output => true,
+            DatabaseOption::Level | DatabaseOption::Metrics => true,
+            DatabaseOption::Output | DatabaseOption::Point => true,
             DatabaseOption::ByInstance | DatabaseOption::Covered => false,
         }
     }
@@ -54,7 +69,7 @@ impl DatabaseOption {
             DatabaseOption::Level => ReportLevel::named(value).is_some(),
             DatabaseOption::Metrics => is_letters(value),
             DatabaseOption::ByInstance | DatabaseOption::Covered => value.is_empty(),
-            DatabaseOption::Output => is_file_name(value),
+            DatabaseOption::Output | DatabaseOption::Point => is_file_name(value),
         }
     }
 }

@@ -4,15 +4,17 @@ ghost use Rattle.command_line.specs.DatabaseOption.{takes_value};
 ghost use Rattle.command_line.specs.DatabaseWords.{IsMerge, IsReport, command_text, merge_values, report_values, value_words};
 ghost use Rattle.command_line.specs.GivenWords.{HasRead};
 ghost use Rattle.command_line.specs.LcovWords.{IsLcov, lcov_values};
+ghost use Rattle.command_line.specs.PointWords.{IsExclude, IsRestore, point_values};
 ghost use Rattle.command_line.specs.RankWords.{IsRank, rank_values};
 ghost use Rattle.command_line.specs.WordsLeft.{left_words};
-ghost use Rattle.command_line.specs.declared.database_command.DatabaseCommand.TheVariants.{Merge, Report, Lcov, Rank};
+ghost use Rattle.command_line.specs.declared.database_command.DatabaseCommand.TheVariants.{Exclude, Lcov, Merge, Rank, Report, Restore};
 
 use crate::given_words::GivenWords;
 use crate::value_form::is_database_name;
 use crate::words_left::WordsLeft;
 use crate::{
-    DatabaseCommand, DatabaseOption, LcovWords, MergeWords, RankWords, ReportWords, UsageFault,
+    DatabaseCommand, DatabaseOption, LcovWords, MergeWords, PointWords, RankWords, ReportWords,
+    UsageFault,
 };
 
 /// Reads the words that are left after `merge`.
@@ -63,6 +65,30 @@ pub(crate) fn read_rank<'a>(left: &mut WordsLeft<'a>) -> Result<RankWords<'a>, U
     }
 }
 
+/// Reads the words that are left after `exclude`.
+pub(crate) fn read_exclude<'a>(left: &mut WordsLeft<'a>) -> Result<PointWords<'a>, UsageFault<'a>>
+    ensures exclude { IfOk result (λ points. IsExclude (codes "exclude" ∷ left_words left.old) (point_values points)) }
+    ensures fault { IfErr result (λ fault. HasDatabaseFault Exclude (codes "exclude" ∷ left_words left.old) fault) }
+{
+    let given = read_words(DatabaseCommand::Exclude, left)?;
+    match given.point_words() {
+        Ok(points) => Ok(points),
+        Err(word) => Err(UsageFault::Missing(word)),
+    }
+}
+
+/// Reads the words that are left after `restore`.
+pub(crate) fn read_restore<'a>(left: &mut WordsLeft<'a>) -> Result<PointWords<'a>, UsageFault<'a>>
+    ensures restore { IfOk result (λ points. IsRestore (codes "restore" ∷ left_words left.old) (point_values points)) }
+    ensures fault { IfErr result (λ fault. HasDatabaseFault Restore (codes "restore" ∷ left_words left.old) fault) }
+{
+    let given = read_words(DatabaseCommand::Restore, left)?;
+    match given.point_words() {
+        Ok(points) => Ok(points),
+        Err(word) => Err(UsageFault::Missing(word)),
+    }
+}
+
 /// Reads the words that are left after the name of the command.
 fn read_words<'a>(
     command: DatabaseCommand,
@@ -80,7 +106,7 @@ fn read_words<'a>(
             given.add_file(word, *left);
             continue;
         };
-        if given.get(option).is_some() {
+        if !given.has_room_for(option) {
             return Err(UsageFault::GivenTwice(word));
         }
         let Some(value) = value_behind(option, left) else {

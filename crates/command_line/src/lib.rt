@@ -24,6 +24,8 @@ mod laws;
 mod lcov_words;
 mod merge_words;
 mod option_values;
+mod point_addresses;
+mod point_words;
 mod rank_words;
 mod report_level;
 mod report_metrics;
@@ -51,6 +53,8 @@ pub use laws::{
 };
 pub use lcov_words::LcovWords;
 pub use merge_words::MergeWords;
+pub use point_addresses::PointAddresses;
+pub use point_words::PointWords;
 pub use rank_words::RankWords;
 pub use report_level::ReportLevel;
 pub use report_metrics::ReportMetrics;

@@ -1,24 +1,29 @@
 -- Why a call of the program ends with its status.
 use Rattle.std.proofs.Common.{◌≡◌, ℕ, List, Option, None, Some, Ok, Err, sym, ap, refl, ◌∙◌, inl, inr}
 use Rattle.std.specs.Prelude.{Result, IfErr, OnOk, ◌↔◌}
-use Rattle.command_line.specs.Command.{AreWordsOf, CommandValues, IsCommand, score, merge, report, lcov, rank, command_values}
+use Rattle.command_line.specs.Command.{AreWordsOf, CommandValues, IsCommand, score, merge, report, lcov, rank, exclude, restore, command_values}
 use Rattle.command_line.specs.CommandWords.{IsScore, ScoreValues, score_values}
 use Rattle.command_line.specs.DatabaseWords.{IsMerge, IsReport, MergeValues, ReportValues, merge_values, report_values}
 use Rattle.command_line.specs.LcovWords.{IsLcov, LcovValues, lcov_values}
+use Rattle.command_line.specs.PointWords.{PointValues, point_values}
 use Rattle.command_line.specs.RankWords.{IsRank, RankValues, rank_values}
 use Rattle.command_line.specs.declared.command.Command.{Command}
-use Rattle.command_line.specs.declared.command.Command.TheVariants.{Score, Merge, Report, Lcov, Rank}
+use Rattle.command_line.specs.declared.command.Command.TheVariants.{Score, Merge, Report, Lcov, Rank, Exclude, Restore}
 use Rattle.command_line.proofs.OneCommand.{one_of_all}
 use Rattle.command_line.proofs.Outcome.{command_without_fault}
 use Rattle.cov_host.specs.Outside.{Outside, Files, Told}
 use Rattle.database_commands.specs.Faults.{IsMergeFault}
+use Rattle.database_commands.specs.Excluding.{IsPointsFault}
 use Rattle.database_commands.specs.Ranking.{IsRankFault}
+use Rattle.database_commands.specs.declared.change.Change.{Change}
+use Rattle.database_commands.specs.declared.change.Change.TheVariants as change
 use Rattle.database_commands.specs.Reporting.{IsReportFault, KeepsUnlessNamed, PrintsIfUnnamed}
 use Rattle.database_commands.specs.Tracing.{IsLcovFault}
 use Rattle.database_commands.specs.declared.fault.CommandFault.{CommandFault}
 use Rattle.database_commands.specs.declared.fault.CommandFault.TheVariants as database_fault
 use Rattle.covered_cli.specs.Covered.{HasContradiction, IsNoCommand, IsSomeCommand, KeepsUnnamed, PrintsText, output_in}
 use Rattle.covered_cli.specs.Databases.{database_status}
+use Rattle.covered_cli.specs.PointCommands.{points_command}
 use Rattle.covered_cli.specs.Fault.{IsDatabaseFault, Stands, StandsIn, StandsInDatabases, StandsInWork, output_of, status_of}
 use Rattle.source_design.specs.declared.fault.SourceFault.{SourceFault}
 use Rattle.source_design.specs.declared.fault.SourceFault.TheVariants as source_fault
@@ -93,7 +98,18 @@ stands_as_rank words values before after is (Dump refusal) stands = absurd stand
 stands_as_rank words values before after is (Contradiction found) stands = absurd stands
 stands_as_rank words values before after is (FilesFault call file) stands = absurd stands
 stands_as_rank words values before after is Memory stands = absurd stands
-stands_as_rank words values before after is (Databases f) stands = inr (inr (inr (values, is, stands)))
+stands_as_rank words values before after is (Databases f) stands = inr (inr (inr (inl (values, is, stands))))
+
+stands_as_points : (kind : Change) (words : List (List ℕ)) (values : PointValues) (before after : Outside) → AreWordsOf (points_command kind values) words → (fault : Fault) → IsDatabaseFault (IsPointsFault kind values before after) fault → Stands words before after fault
+stands_as_points kind words values before after is (Usage usage) stands = absurd stands
+stands_as_points kind words values before after is (Source f) stands = absurd stands
+stands_as_points kind words values before after is (NoMachine name) stands = absurd stands
+stands_as_points kind words values before after is (PointsFault p) stands = absurd stands
+stands_as_points kind words values before after is (Dump refusal) stands = absurd stands
+stands_as_points kind words values before after is (Contradiction found) stands = absurd stands
+stands_as_points kind words values before after is (FilesFault call file) stands = absurd stands
+stands_as_points kind words values before after is Memory stands = absurd stands
+stands_as_points kind words values before after is (Databases f) stands = inr (inr (inr (inr (kind, values, is, stands))))
 
 -- what stands in the work of a command stands in the call of the program
 pub stands_in_call : (words : List (List ℕ)) (command : Command) (before after : Outside) → IsCommand words command → (fault : Fault) → StandsInWork command before after fault → Stands words before after fault
@@ -102,6 +118,8 @@ stands_in_call words (Merge values) before after is fault stands = stands_as_mer
 stands_in_call words (Report values) before after is fault stands = stands_as_report words (report_values values) before after is fault stands
 stands_in_call words (Lcov values) before after is fault stands = stands_as_lcov words (lcov_values values) before after is fault stands
 stands_in_call words (Rank values) before after is fault stands = stands_as_rank words (rank_values values) before after is fault stands
+stands_in_call words (Exclude values) before after is fault stands = stands_as_points change.Exclude words (point_values values) before after is fault stands
+stands_in_call words (Restore values) before after is fault stands = stands_as_points change.Restore words (point_values values) before after is fault stands
 
 -- the words of a command are one
 pub is_some_command : (words : List (List ℕ)) (command : Command) → IsCommand words command → IsSomeCommand words
@@ -114,6 +132,8 @@ same_output (Merge values) = refl
 same_output (Report values) = refl
 same_output (Lcov values) = refl
 same_output (Rank values) = refl
+same_output (Exclude values) = refl
+same_output (Restore values) = refl
 
 keeps_by : (words : List (List ℕ)) (values : CommandValues) (output : Option (List ℕ)) → AreWordsOf values words → output_in values ≡ output → (old new : Files) → KeepsUnlessNamed output old new → KeepsUnnamed words old new
 keeps_by words values None is names old new kept name unnamed = kept name
@@ -135,6 +155,8 @@ prints_nothing words (Report values) before after is prints none = go (report_va
     go (Some name) same prints = prints
 prints_nothing words (Lcov values) before after is prints none = prints
 prints_nothing words (Rank values) before after is prints none = absurd (none (inr (rank_values values, is)))
+prints_nothing words (Exclude values) before after is prints none = prints
+prints_nothing words (Restore values) before after is prints none = prints
 
 -- the words of a command have no fault
 pub command_or_fault : (words : List (List ℕ)) → IsSomeCommand words → IsNoCommand words → ⊥
@@ -145,13 +167,16 @@ pub score_or_databases : (words : List (List ℕ)) (values : ScoreValues) (befor
 score_or_databases words values before after f is (inl stands) = let e = one_of_all words (score values) (merge stands.0) is stands.1 in cc
 score_or_databases words values before after f is (inr (inl stands)) = let e = one_of_all words (score values) (report stands.0) is stands.1 in cc
 score_or_databases words values before after f is (inr (inr (inl stands))) = let e = one_of_all words (score values) (lcov stands.0) is stands.1 in cc
-score_or_databases words values before after f is (inr (inr (inr stands))) = let e = one_of_all words (score values) (rank stands.0) is stands.1 in cc
+score_or_databases words values before after f is (inr (inr (inr (inl stands)))) = let e = one_of_all words (score values) (rank stands.0) is stands.1 in cc
+score_or_databases words values before after f is (inr (inr (inr (inr (change.Exclude, points, is_points, fault))))) = let e = one_of_all words (score values) (exclude points) is is_points in cc
+score_or_databases words values before after f is (inr (inr (inr (inr (change.Restore, points, is_points, fault))))) = let e = one_of_all words (score values) (restore points) is is_points in cc
 
 databases_are_command : (words : List (List ℕ)) (before after : Outside) (f : CommandFault) → StandsInDatabases words before after f → IsSomeCommand words
 databases_are_command words before after f (inl stands) = (merge stands.0, stands.1)
 databases_are_command words before after f (inr (inl stands)) = (report stands.0, stands.1)
 databases_are_command words before after f (inr (inr (inl stands))) = (lcov stands.0, stands.1)
-databases_are_command words before after f (inr (inr (inr stands))) = (rank stands.0, stands.1)
+databases_are_command words before after f (inr (inr (inr (inl stands)))) = (rank stands.0, stands.1)
+databases_are_command words before after f (inr (inr (inr (inr stands)))) = (points_command stands.0 stands.1, stands.2)
 
 -- no fault of a command over databases is one of usage
 no_usage : (f : CommandFault) → database_status f ≡ status.Usage → ⊥
@@ -160,6 +185,7 @@ no_usage database_fault.Print same = cc
 no_usage database_fault.Memory same = cc
 no_usage (database_fault.NoDatabase file kind line) same = cc
 no_usage (database_fault.DesignsDiffer file line first other) same = cc
+no_usage (database_fault.Point file refusal address) same = cc
 
 source_no_usage : (f : SourceFault) → source_status f ≡ status.Usage → ⊥
 source_no_usage source_fault.NoMemory same = cc
@@ -205,6 +231,7 @@ no_contradiction database_fault.Print same = cc
 no_contradiction database_fault.Memory same = cc
 no_contradiction (database_fault.NoDatabase file kind line) same = cc
 no_contradiction (database_fault.DesignsDiffer file line first other) same = cc
+no_contradiction (database_fault.Point file refusal address) same = cc
 
 -- a fault ends with the status of a contradiction only where no run of the design shows the dump
 pub contradiction_cause : (words : List (List ℕ)) (before after : Outside) (fault : Fault) → Stands words before after fault → status_of fault ≡ status.Contradiction → HasContradiction words before

@@ -2,7 +2,7 @@
 use Rattle.std.proofs.Common.{◌≡◌, inl, inr, ℕ, List, Option, None, Some, refl, sym, ap, subst, ◌∙◌}
 use Rattle.std.specs.Prelude.{IfSome, IsSome, IsSomeAnd, MatchOption}
 use Rattle.command_line.proofs.OneCommand.{one_command, one_of_all}
-use Rattle.command_line.specs.Command.{AreWordsOf, CommandValues, score as of_score, merge as of_merge, report as of_report, lcov as of_lcov, rank as of_rank}
+use Rattle.command_line.specs.Command.{AreWordsOf, CommandValues, score as of_score, merge as of_merge, report as of_report, lcov as of_lcov, rank as of_rank, exclude as of_exclude, restore as of_restore}
 use Rattle.command_line.specs.CommandWords.{IsScore, ScoreValues}
 use Rattle.cov_host.specs.Outside.{Files, Outside, IsCounted}
 use Rattle.design_model.specs.Run.{Run}
@@ -15,7 +15,7 @@ use Rattle.design_points.specs.cover_points.declared.fault.PointFault.{PointFaul
 use Rattle.design_points.specs.cover_points.declared.fault.PointFault.TheVariants as point_fault
 use Rattle.shown_dumps.specs.Bound.{IsBound}
 use Rattle.shown_dumps.specs.Shown.{bound_dump}
-use Rattle.signal_binding.specs.Binding.{IsBindable}
+use Rattle.signal_binding.specs.Binding.{HasInstance}
 use Rattle.vcd_reader.proofs.OneHeader.{one_header}
 use Rattle.vcd_reader.specs.Dump.{Dump, IsDump, SaysBody}
 use Rattle.vcd_reader.specs.Reading.{Body}
@@ -31,7 +31,7 @@ use Rattle.source_design.specs.Reading.{HasSources, IsSourceFault}
 use Rattle.source_design.specs.declared.fault.SourceFault.{SourceFault}
 use Rattle.source_design.specs.declared.fault.SourceFault.TheVariants as source_fault
 use Rattle.covered_cli.proofs.Causes.{command_or_fault, score_or_databases}
-use Rattle.covered_cli.proofs.GoodDumps.{not_contradicted, not_refused, same_bindable, same_bound, same_shown}
+use Rattle.covered_cli.proofs.GoodDumps.{not_contradicted, not_refused, same_bound, same_shown}
 use Rattle.covered_cli.specs.Complete.{EndsWith, HasBadDump, HasBadSource, HasText, HasUnboundDump, HaveTexts, IsCommandWith, IsGoodScore, IsOfBinding, LacksPoints, NoFaults, RefusesBinding, RefusesDump, RefusesPoints}
 use Rattle.covered_cli.specs.Drawing.{IsNoMachineOf}
 use Rattle.covered_cli.specs.Effects.{WarnsLine}
@@ -139,26 +139,24 @@ module _ (score : ScoreValues) (before : Outside) (design : Design) (text : List
       (same_shown (habit_in score) design refuted.design dump score.instance (design_found refuted.sources refuted.design refuted.has_design) run shown) x refuted.holds
 
   -- where the header is read and binds nothing, the refusal is one of the binding
-  module _ (b : Body) (says : SaysBody text b) (unbound : IsBindable design b.vars score.instance → ⊥) where
-    not_bound : (others : List SourceText) (other : Design) (body : Body) → HasDesign score before others other → SaysBody text body → IsBindable other body.vars score.instance → ⊥
-    not_bound others other body has said bound =
-        unbound (subst (λ vars. IsBindable design vars score.instance) (sym (one_header text body b said says)) (same_bindable other design body.vars score.instance (sym (design_found others other has)) bound))
+  module _ (b : Body) (says : SaysBody text b) (unbound : HasInstance b.vars score.instance → ⊥) where
+    not_bound : (body : Body) → SaysBody text body → HasInstance body.vars score.instance → ⊥
+    not_bound body said bound = unbound (subst (λ vars. HasInstance vars score.instance) (sym (one_header text body b said says)) bound)
 
     of_binding : (r : DumpRefusal) → IsRefusedDump score before r → IsOfBinding r
     of_binding r refused = go r (subst (λ t. IsDumpRefusal refused.design score.instance t r) (sym (same_text refused.text refused.is)) refused.holds)
       where
         go : (r : DumpRefusal) → IsDumpRefusal refused.design score.instance text r → IsOfBinding r
         go (refusal.At kind byte) (first, inl none) = none b says
-        go (refusal.At kind byte) (first, inr (binds, none)) = not_bound refused.sources refused.design binds.0 refused.has_design binds.1 binds.2
+        go (refusal.At kind byte) (first, inr (binds, none)) = not_bound binds.0 binds.1 binds.2
         go (refusal.NoInstance path) is = tt
-        go (refusal.InputNotDumped path) is = tt
-        go (refusal.NoBaseline path) is = let some = is.2 in not_bound refused.sources refused.design some.0 refused.has_design some.1 some.2.bindable
+        go (refusal.NoBaseline path) is = let some = is.2 in not_bound some.0 some.1 some.2.there
 
     -- and it is not contradicted
     none_contradicted : (x : Contradiction) → IsContradictedDump score before x → ⊥
     none_contradicted x refuted =
         let some = (subst (λ t. IsContradictedText (habit_in score) refuted.design score.instance t x) (sym (same_text refuted.text refuted.is)) refuted.holds).2 in
-        not_bound refuted.sources refuted.design some.0 refuted.has_design some.1 some.2.bindable
+        not_bound some.0 some.1 some.2.there
 
   -- a design that has no score is not done
   dump_done : (after : Outside) → HasNoScore design score.instance text → IsDoneIn score before after → ⊥
@@ -207,7 +205,7 @@ unbound_is_bad score before u = record {
   texts = u.texts;
   refused = λ dump is bound.
       let same : dump.vars ≡ u.b.vars = is.vars ∙ one_header u.text u.b is.b u.says (inr is.ends) in
-      u.refused (subst (λ vars. IsBindable u.design vars score.instance) same bound.bindable);
+      u.refused (subst (λ vars. HasInstance vars score.instance) same bound.there);
 }
 
 bad_command : (words : List (List ℕ)) (before : Outside) → IsCommandWith HasUnboundDump words before → IsCommandWith HasBadDump words before
@@ -344,6 +342,8 @@ module _ (words : List (List ℕ)) (before after : Outside) (done : IsDone words
       by_values (of_report other) is_other by = let e = one_of_all words (of_report other) (of_score score) is_other is in absurd (cc)
       by_values (of_lcov other) is_other by = let e = one_of_all words (of_lcov other) (of_score score) is_other is in absurd (cc)
       by_values (of_rank other) is_other by = let e = one_of_all words (of_rank other) (of_score score) is_other is in absurd (cc)
+      by_values (of_exclude other) is_other by = let e = one_of_all words (of_exclude other) (of_score score) is_other is in absurd (cc)
+      by_values (of_restore other) is_other by = let e = one_of_all words (of_restore other) (of_score score) is_other is in absurd (cc)
 
   pub bad_source_not_done : IsCommandWith HasBadSource words before → ⊥
   bad_source_not_done (score, is, bad) = source_done score before bad.sources bad.told bad.gathered after bad.refused (done_by score is)

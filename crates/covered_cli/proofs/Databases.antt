@@ -3,21 +3,26 @@ use Rattle.std.proofs.Common.{◌≡◌, ◌⊎◌, ℕ, ◌≤◌, List, [], �
 use Rattle.std.proofs.lemmas.List.Elements.{Contains-append_right}
 use Rattle.std.specs.Global.{Global}
 use Rattle.std.specs.Prelude.{Contains, MatchOption}
-use Rattle.command_line.specs.Command.{AreWordsOf, CommandValues, score as of_score, merge as of_merge, report as of_report, lcov as of_lcov, rank as of_rank}
+use Rattle.command_line.specs.Command.{AreWordsOf, CommandValues, score as of_score, merge as of_merge, report as of_report, lcov as of_lcov, rank as of_rank, exclude as of_exclude, restore as of_restore}
 use Rattle.command_line.specs.CommandWords.{IsScore, ScoreValues}
 use Rattle.command_line.specs.DatabaseWords.{MergeValues, ReportValues}
 use Rattle.command_line.specs.LcovWords.{LcovValues}
+use Rattle.command_line.specs.PointWords.{PointValues}
 use Rattle.command_line.specs.RankWords.{RankValues}
 use Rattle.command_line.proofs.OneCommand.{one_of_all}
 use Rattle.cov_host.specs.Outside.{Files as HostFiles, IsCounted, KeepsFiles, KeepsInput, KeepsOutput, Outside}
 use Rattle.database_commands.specs.Faults.{ComesTo, IsMergeFault, IsNoTable, IsReading, inputs_of}
 use Rattle.database_commands.specs.Complete.{IsGoodMerge, IsGoodReport}
+use Rattle.database_commands.specs.Excluding.{IsGoodChange, IsNoExclusion, IsPointsFault}
 use Rattle.database_commands.specs.Ranking.{IsGoodRank, IsRankFault, IsReached, ranked_files}
 use Rattle.database_commands.specs.Reporting.{IsReportFault}
 use Rattle.database_commands.specs.Tracing.{IsGoodLcov, IsLcovFault}
+use Rattle.database_commands.specs.declared.change.Change.{Change}
+use Rattle.database_commands.specs.declared.change.Change.TheVariants as change
 use Rattle.database_commands.specs.declared.fault.CommandFault.{CommandFault}
 use Rattle.database_commands.specs.declared.fault.CommandFault.TheVariants as database
 use Rattle.database_commands.proofs.Complete.{good_merge, good_report, refused_write}
+use Rattle.database_commands.proofs.Excluding.{good_points}
 use Rattle.database_commands.proofs.Ranking.{good_rank}
 use Rattle.database_commands.proofs.Tracing.{good_lcov}
 use Rattle.whole_files.specs.Effects.{CountsUp, IsMissing}
@@ -61,6 +66,7 @@ early_status (Databases database.Print) early = absurd early
 early_status (Databases database.Memory) early = absurd early
 early_status (Databases (database.NoDatabase file kind line)) early = tt
 early_status (Databases (database.DesignsDiffer file line first other)) early = tt
+early_status (Databases (database.Point file refusal address)) early = tt
 
 -- ---- good databases
 
@@ -71,6 +77,8 @@ IsGoodFor (of_merge values) before = IsGoodMerge values before
 IsGoodFor (of_report values) before = IsGoodReport values before
 IsGoodFor (of_lcov values) before = IsGoodLcov values before
 IsGoodFor (of_rank values) before = IsGoodRank values before
+IsGoodFor (of_exclude values) before = IsGoodChange change.Exclude values before
+IsGoodFor (of_restore values) before = IsGoodChange change.Restore values before
 
 -- a command over databases has the fault
 abbrev IsFaultFor : CommandValues → Outside → Outside → CommandFault → Type 0
@@ -79,18 +87,24 @@ IsFaultFor (of_merge values) before after f = IsMergeFault values before after f
 IsFaultFor (of_report values) before after f = IsReportFault values before after f
 IsFaultFor (of_lcov values) before after f = IsLcovFault values before after f
 IsFaultFor (of_rank values) before after f = IsRankFault values before after f
+IsFaultFor (of_exclude values) before after f = IsPointsFault change.Exclude values before after f
+IsFaultFor (of_restore values) before after f = IsPointsFault change.Restore values before after f
 
 good_command : (words : List (List ℕ)) (before : Outside) → HasGoodDatabases words before → (values : CommandValues) × AreWordsOf values words × IsGoodFor values before
 good_command words before (inl good) = (of_merge good.0, good.1, good.2)
 good_command words before (inr (inl good)) = (of_report good.0, good.1, good.2)
 good_command words before (inr (inr (inl good))) = (of_lcov good.0, good.1, good.2)
-good_command words before (inr (inr (inr good))) = (of_rank good.0, good.1, good.2)
+good_command words before (inr (inr (inr (inl good)))) = (of_rank good.0, good.1, good.2)
+good_command words before (inr (inr (inr (inr (change.Exclude, points, is, good))))) = (of_exclude points, is, good)
+good_command words before (inr (inr (inr (inr (change.Restore, points, is, good))))) = (of_restore points, is, good)
 
 faulty_command : (words : List (List ℕ)) (before after : Outside) (f : CommandFault) → StandsInDatabases words before after f → (values : CommandValues) × AreWordsOf values words × IsFaultFor values before after f
 faulty_command words before after f (inl stands) = (of_merge stands.0, stands.1, stands.2)
 faulty_command words before after f (inr (inl stands)) = (of_report stands.0, stands.1, stands.2)
 faulty_command words before after f (inr (inr (inl stands))) = (of_lcov stands.0, stands.1, stands.2)
-faulty_command words before after f (inr (inr (inr stands))) = (of_rank stands.0, stands.1, stands.2)
+faulty_command words before after f (inr (inr (inr (inl stands)))) = (of_rank stands.0, stands.1, stands.2)
+faulty_command words before after f (inr (inr (inr (inr (change.Exclude, points, is, fault))))) = (of_exclude points, is, fault)
+faulty_command words before after f (inr (inr (inr (inr (change.Restore, points, is, fault))))) = (of_restore points, is, fault)
 
 good_are_words : (words : List (List ℕ)) (before : Outside) → HasGoodDatabases words before → (values : CommandValues) × AreWordsOf values words
 good_are_words words before good = let command = good_command words before good in (command.0, command.1)
@@ -106,6 +120,8 @@ good_fault_for alloc (of_merge values) before after good none f fault = good_mer
 good_fault_for alloc (of_report values) before after good none f fault = good_report values before after good none f fault
 good_fault_for alloc (of_lcov values) before after good none f fault = good_lcov values before after good none f fault
 good_fault_for alloc (of_rank values) before after good none f fault = good_rank alloc values before after good none f fault
+good_fault_for alloc (of_exclude values) before after good none f fault = good_points alloc change.Exclude values before after good none f fault
+good_fault_for alloc (of_restore values) before after good none f fault = good_points alloc change.Restore values before after good none f fault
 
 -- of good databases no fault but want of memory stands
 good_fault : (alloc : Global) (words : List (List ℕ)) (before after : Outside) → NoFaults before after → HasGoodDatabases words before → (f : CommandFault) → StandsInDatabases words before after f → f ≡ database.Memory
@@ -143,17 +159,26 @@ database_fault_cause words before after database.Memory stands is = absurd (cc)
 database_fault_cause words before after (database.NoDatabase file kind line) (inl (merge, is_merge, fault)) is =
     inl (merge, file.now, is_merge, comes_within (inputs_of merge) before file.now fault.0, inl (kind, line, fault.1))
 database_fault_cause words before after (database.NoDatabase file kind line) (inr (inl (report, is_report, fault))) is =
-    inr (inl (report, is_report, (kind, line, subst (λ name. IsNoTable name before kind line) fault.0 fault.1)))
+    inr (inl (report, is_report, (kind, line, subst (λ name. IsNoExclusion name before kind line) fault.0 fault.1)))
 database_fault_cause words before after (database.NoDatabase file kind line) (inr (inr (inl (lcov, is_lcov, fault)))) is =
     inr (inr (inl (lcov, is_lcov, (kind, line, subst (λ name. IsNoTable name before kind line) fault.0 fault.1))))
-database_fault_cause words before after (database.NoDatabase file kind line) (inr (inr (inr (rank, is_rank, fault)))) is =
-    inr (inr (inr (rank, file.now, is_rank, reached_within (ranked_files rank) before file.now fault.0, inl (kind, line, fault.1))))
+database_fault_cause words before after (database.NoDatabase file kind line) (inr (inr (inr (inl (rank, is_rank, fault))))) is =
+    inr (inr (inr (inl (rank, file.now, is_rank, reached_within (ranked_files rank) before file.now fault.0, inl (kind, line, fault.1)))))
+database_fault_cause words before after (database.NoDatabase file kind line) (inr (inr (inr (inr (change_is, points, is_points, fault))))) is =
+    inr (inr (inr (inr (change_is, points, is_points, inl (kind, line, subst (λ name. IsNoExclusion name before kind line) fault.0 fault.1)))))
 database_fault_cause words before after (database.DesignsDiffer file line first other) (inl (merge, is_merge, fault)) is =
     inl (merge, file.now, is_merge, comes_within (inputs_of merge) before file.now fault.0, inr (line, first, other, fault.1))
 database_fault_cause words before after (database.DesignsDiffer file line first other) (inr (inl (report, is_report, fault))) is = absurd fault
 database_fault_cause words before after (database.DesignsDiffer file line first other) (inr (inr (inl (lcov, is_lcov, fault)))) is = absurd fault
-database_fault_cause words before after (database.DesignsDiffer file line first other) (inr (inr (inr (rank, is_rank, fault)))) is =
-    inr (inr (inr (rank, file.now, is_rank, comes_within (ranked_files rank) before file.now fault.1, inr (line, first, other, fault.2))))
+database_fault_cause words before after (database.DesignsDiffer file line first other) (inr (inr (inr (inl (rank, is_rank, fault))))) is =
+    inr (inr (inr (inl (rank, file.now, is_rank, comes_within (ranked_files rank) before file.now fault.1, inr (line, first, other, fault.2)))))
+database_fault_cause words before after (database.DesignsDiffer file line first other) (inr (inr (inr (inr (kind, points, is_points, fault))))) is = absurd fault
+database_fault_cause words before after (database.Point file refusal address) (inl (merge, is_merge, fault)) is = absurd fault
+database_fault_cause words before after (database.Point file refusal address) (inr (inl (report, is_report, fault))) is = absurd fault
+database_fault_cause words before after (database.Point file refusal address) (inr (inr (inl (lcov, is_lcov, fault)))) is = absurd fault
+database_fault_cause words before after (database.Point file refusal address) (inr (inr (inr (inl (rank, is_rank, fault))))) is = absurd fault
+database_fault_cause words before after (database.Point file refusal address) (inr (inr (inr (inr (kind, points, is_points, fault))))) is =
+    inr (inr (inr (inr (kind, points, is_points, inr (address.now, refusal, fault.1)))))
 
 points_no_database : (p : PointFault) → points_status p ≡ status.Database → ⊥
 points_no_database point_fault.NoMemory same = cc
@@ -238,15 +263,22 @@ databases_files_cause words before after (database.Files call file) (inr (inl (r
 databases_files_cause words before after (database.Files call file) (inr (inr (inl (lcov, is_lcov, inl fault)))) is =
     reading_call words before after call file.now fault.0 (of_lcov lcov, is_lcov, (0, omega arith, sym fault.1)) fault.2
 databases_files_cause words before after (database.Files call file) (inr (inr (inl (lcov, is_lcov, inr fault)))) is = inl (refused_write before after call file.now fault.0 fault.2)
-databases_files_cause words before after (database.Files call file) (inr (inr (inr (rank, is_rank, fault)))) is =
+databases_files_cause words before after (database.Files call file) (inr (inr (inr (inr (change.Exclude, points, is_points, inl fault))))) is =
+    reading_call words before after call file.now fault.0 (of_exclude points, is_points, (0, omega arith, sym fault.1)) fault.2
+databases_files_cause words before after (database.Files call file) (inr (inr (inr (inr (change.Restore, points, is_points, inl fault))))) is =
+    reading_call words before after call file.now fault.0 (of_restore points, is_points, (0, omega arith, sym fault.1)) fault.2
+databases_files_cause words before after (database.Files call file) (inr (inr (inr (inr (kind, points, is_points, inr fault))))) is = inl (refused_write before after call file.now fault.0 fault.2)
+databases_files_cause words before after (database.Files call file) (inr (inr (inr (inl (rank, is_rank, fault))))) is =
     reading_call words before after call file.now fault.0 (of_rank rank, is_rank, reached_within (ranked_files rank) before file.now fault.1) fault.2
 databases_files_cause words before after database.Print (inl (merge, is_merge, fault)) is = absurd fault
 databases_files_cause words before after database.Print (inr (inl (report, is_report, fault))) is = inl fault.1
 databases_files_cause words before after database.Print (inr (inr (inl (lcov, is_lcov, fault)))) is = absurd fault
-databases_files_cause words before after database.Print (inr (inr (inr (rank, is_rank, fault)))) is = inl fault.0
+databases_files_cause words before after database.Print (inr (inr (inr (inl (rank, is_rank, fault))))) is = inl fault.0
+databases_files_cause words before after database.Print (inr (inr (inr (inr (kind, points, is_points, fault))))) is = absurd fault
 databases_files_cause words before after database.Memory stands is = absurd (cc)
 databases_files_cause words before after (database.NoDatabase file kind line) stands is = absurd (cc)
 databases_files_cause words before after (database.DesignsDiffer file line first other) stands is = absurd (cc)
+databases_files_cause words before after (database.Point file refusal address) stands is = absurd (cc)
 
 files_fault_cause : (words : List (List ℕ)) (before after : Outside) (fault : Fault) → Stands words before after fault → status_of fault ≡ status.Files → HasFilesCause words before after
 files_fault_cause words before after (Usage usage) stands is = absurd (cc)
@@ -300,6 +332,7 @@ module _ (before middle after : Outside) (first : CountsUp before middle) (secon
   merge_fault_later merge database.Memory fault = tt
   merge_fault_later merge (database.NoDatabase file kind line) fault = fault
   merge_fault_later merge (database.DesignsDiffer file line one other) fault = fault
+  merge_fault_later merge (database.Point file refusal address) fault = absurd fault
 
   report_fault_later : (report : ReportValues) (f : CommandFault) → IsReportFault report before middle f → IsReportFault report before after f
   report_fault_later report (database.Files call file) (inl fault) = inl (fault.0, fault.1, call_later call file.now fault.2)
@@ -308,6 +341,7 @@ module _ (before middle after : Outside) (first : CountsUp before middle) (secon
   report_fault_later report database.Memory fault = tt
   report_fault_later report (database.NoDatabase file kind line) fault = fault
   report_fault_later report (database.DesignsDiffer file line one other) fault = absurd fault
+  report_fault_later report (database.Point file refusal address) fault = absurd fault
 
   lcov_fault_later : (lcov : LcovValues) (f : CommandFault) → IsLcovFault lcov before middle f → IsLcovFault lcov before after f
   lcov_fault_later lcov (database.Files call file) (inl fault) = inl (fault.0, fault.1, call_later call file.now fault.2)
@@ -316,6 +350,7 @@ module _ (before middle after : Outside) (first : CountsUp before middle) (secon
   lcov_fault_later lcov database.Memory fault = tt
   lcov_fault_later lcov (database.NoDatabase file kind line) fault = fault
   lcov_fault_later lcov (database.DesignsDiffer file line one other) fault = absurd fault
+  lcov_fault_later lcov (database.Point file refusal address) fault = absurd fault
 
   rank_fault_later : (rank : RankValues) (f : CommandFault) → IsRankFault rank before middle f → IsRankFault rank before after f
   rank_fault_later rank (database.Files call file) fault = (fault.0, fault.1, call_later call file.now fault.2)
@@ -323,12 +358,23 @@ module _ (before middle after : Outside) (first : CountsUp before middle) (secon
   rank_fault_later rank database.Memory fault = tt
   rank_fault_later rank (database.NoDatabase file kind line) fault = fault
   rank_fault_later rank (database.DesignsDiffer file line one other) fault = fault
+  rank_fault_later rank (database.Point file refusal address) fault = absurd fault
+
+  points_fault_later : (kind : Change) (points : PointValues) (f : CommandFault) → IsPointsFault kind points before middle f → IsPointsFault kind points before after f
+  points_fault_later kind points (database.Files call file) (inl fault) = inl (fault.0, fault.1, call_later call file.now fault.2)
+  points_fault_later kind points (database.Files call file) (inr fault) = inr (fault.0, fault.1, call_later call file.now fault.2, fault.3)
+  points_fault_later kind points database.Print fault = absurd fault
+  points_fault_later kind points database.Memory fault = tt
+  points_fault_later kind points (database.NoDatabase file problem line) fault = fault
+  points_fault_later kind points (database.DesignsDiffer file line one other) fault = absurd fault
+  points_fault_later kind points (database.Point file refusal address) fault = fault
 
   databases_stand_later : (words : List (List ℕ)) (f : CommandFault) → StandsInDatabases words before middle f → StandsInDatabases words before after f
   databases_stand_later words f (inl (merge, is, fault)) = inl (merge, is, merge_fault_later merge f fault)
   databases_stand_later words f (inr (inl (report, is, fault))) = inr (inl (report, is, report_fault_later report f fault))
   databases_stand_later words f (inr (inr (inl (lcov, is, fault)))) = inr (inr (inl (lcov, is, lcov_fault_later lcov f fault)))
-  databases_stand_later words f (inr (inr (inr (rank, is, fault)))) = inr (inr (inr (rank, is, rank_fault_later rank f fault)))
+  databases_stand_later words f (inr (inr (inr (inl (rank, is, fault))))) = inr (inr (inr (inl (rank, is, rank_fault_later rank f fault))))
+  databases_stand_later words f (inr (inr (inr (inr (kind, points, is, fault))))) = inr (inr (inr (inr (kind, points, is, points_fault_later kind points f fault))))
 
   pub stands_later : (words : List (List ℕ)) (fault : Fault) → Stands words before middle fault → Stands words before after fault
   stands_later words (Usage usage) stands = stands

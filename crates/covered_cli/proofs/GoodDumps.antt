@@ -21,23 +21,21 @@ use Rattle.four_state.specs.declared.bit.Bit.{Bit}
 use Rattle.shown_dumps.proofs.Fronts.{front}
 use Rattle.shown_dumps.proofs.Ongoing.{first_stays}
 use Rattle.shown_dumps.proofs.Times.{times_are, times_in_append}
-use Rattle.shown_dumps.proofs.Values.{rises_front}
 use Rattle.shown_dumps.specs.Bound.{IsBound, first_value}
 use Rattle.shown_dumps.specs.Laws.{dump_with}
 use Rattle.shown_dumps.specs.Said.{times_in}
 use Rattle.shown_dumps.specs.Shown.{bound_dump, code_at, dump_of}
-use Rattle.signal_binding.specs.Binding.{IsBindable, code_of, codes_of}
+use Rattle.signal_binding.specs.Binding.{codes_of}
 use Rattle.signal_binding.specs.Names.{stands_in}
 use Rattle.vcd_reader.proofs.FaultLaws.{dump_excludes, fault_excludes}
 use Rattle.vcd_reader.proofs.Growing.{dump_goes_on}
 use Rattle.vcd_reader.proofs.RisingTimes.{times_rise}
 use Rattle.vcd_reader.specs.Dump.{Dump, GoesOn, IsDump, SaysBody, steps_of}
 use Rattle.vcd_reader.specs.Reading.{Body}
-use Rattle.vcd_reader.specs.Times.{IsLater, Rises}
+use Rattle.vcd_reader.specs.Times.{Rises}
 use Rattle.vcd_reader.specs.declared.entry.Entry.{Entry}
 use Rattle.vcd_reader.specs.declared.entry.Entry.TheVariants.{Time}
 use Rattle.vcd_reader.specs.declared.fault.DumpFault.TheVariants.{At}
-use Rattle.vcd_reader.specs.declared.vars.Var.{Var}
 use Rattle.dump_score.specs.verdict_laws.Sound.{IsShownBy}
 use Rattle.covered_cli.specs.Scoring.{IsContradictedText, IsDumpRefusal}
 use Rattle.covered_cli.specs.declared.contradiction.Contradiction.{Contradiction}
@@ -61,15 +59,10 @@ one_beside_processes a b same =
     ∙ ap (λ x. made b.top b.instances b.signals b.memories a.processes b.constants x) (ap (λ d. d.aliases) same)
 
 -- and so are bound to the same dumps
-pub same_bindable : (a b : Design) (vars : List Var) (instance : List ℕ) → design_view a ≡ design_view b → IsBindable a vars instance → IsBindable b vars instance
-same_bindable a b vars instance same bindable =
-    let other = subst (λ d. IsBindable d vars instance) (one_beside_processes a b same) bindable in
-    record { instance_is = other.instance_is; inputs = other.inputs }
-
 pub same_bound : (a b : Design) (dump : Dump) (instance : List ℕ) → design_view a ≡ design_view b → IsBound a dump instance → IsBound b dump instance
 same_bound a b dump instance same bound =
     let other = subst (λ d. IsBound d dump instance) (one_beside_processes a b same) bound in
-    record { bindable = same_bindable a b dump.vars instance same bound.bindable; first_values = other.first_values }
+    record { there = other.there; first_values = other.first_values }
 
 -- and the same runs show them
 pub same_shown : (habit : Habit) (a b : Design) (dump : Dump) (instance : List ℕ) → design_view a ≡ design_view b → (run : Run) → IsShownBy (design_view a) habit (bound_dump a dump instance) run → IsShownBy (design_view b) habit (bound_dump b dump instance) run
@@ -109,11 +102,7 @@ module _ (design : Design) (dump : Dump) (instance text : List ℕ) (is : IsDump
   not_refused bound (refusal.At kind byte) (inr ends, binds) = dump_excludes text is.b (At kind byte) is.ends ends
   not_refused bound (refusal.NoInstance path) refused =
       let some = refused.1 in
-      false≢true (sym (ap (list_any (stands_in instance)) (same_vars some.0 some.1) ∙ some.2) ∙ bound.bindable.instance_is)
-  not_refused bound (refusal.InputNotDumped path) refused =
-      let s = refused.0 in
-      let some = refused.2 in
-      some_or_none _ (subst (λ vars. IsSome (code_of design vars instance s)) (same_vars some.0 some.1) (bound.bindable.inputs s some.2.listed some.2.input)) some.2.none
+      false≢true (sym (ap (list_any (stands_in instance)) (same_vars some.0 some.1) ∙ some.2) ∙ bound.there)
   not_refused bound (refusal.NoBaseline path) refused =
       let s = refused.0 in
       let some = refused.2 in
@@ -137,7 +126,7 @@ module _ (design : Design) (dump : Dump) (instance text : List ℕ) (is : IsDump
     rises = subst (Rises None) items (times_rise text is.b is.ends)
 
     earlier : time < c.ends.next
-    earlier = subst (λ o. IsLater o c.ends.next) c.ends.last (rises_front None c.ends.front (Time c.ends.next ∷ (goes_on b says).more) rises).1.0
+    earlier = c.ends.before
 
     shows_whole : ShowsUpTo (design_view design) (dump_with (codes_of design b.vars instance) c.ends.front c.ends.next (goes_on b says).more) run time
     shows_whole =

@@ -20,7 +20,7 @@ use Rattle.vcd_reader.specs.declared.entry.Entry.{Entry}
 use Rattle.vcd_reader.specs.declared.vars.Var.{Var}
 use Rattle.covered_cli.specs.Fault.{IsScoringFault}
 use Rattle.covered_cli.specs.ScoreMachines.{habit_in}
-use Rattle.covered_cli.specs.Refusing.{IsBindRefusal, IsReplayRefusal, NamesSignal}
+use Rattle.covered_cli.specs.Refusing.{IsBindRefusal, IsReplayRefusal}
 use Rattle.covered_cli.specs.declared.dump_refusal.DumpRefusal.TheVariants as refusal
 use Rattle.covered_cli.specs.declared.fault.Fault.{Fault}
 use Rattle.covered_cli.specs.declared.fault.Fault.TheVariants as fault
@@ -40,26 +40,15 @@ named_signal habit design vars instance entries (replay_fault.Contradiction s ti
 pub replay_named : (name : List ℕ) (before after : Outside) (habit : Habit) (design : Design) (instance : List ℕ) (f : ReplayFault) → IsScoreFault name before after habit design instance (score_fault.Replay f) → signal_of f < length design.signals
 replay_named name before after habit design instance f is = let some = is.2 in named_signal habit design some.0.vars instance some.0.items f some.2
 
-pub bind_named : (name : List ℕ) (before after : Outside) (habit : Habit) (design : Design) (instance : List ℕ) (f : BindFault) → IsScoreFault name before after habit design instance (score_fault.Bind f) → NamesSignal (length design.signals) f
-bind_named name before after habit design instance bind_fault.NoMemory is = tt
-bind_named name before after habit design instance bind_fault.NoInstance is = tt
-bind_named name before after habit design instance (bind_fault.InputNotDumped s) is = let some = is.2 in some.2.listed
-
 module _ (score : ScoreValues) (design : Design) (before after : Outside) where
   -- a fault of the binding
-  pub bind_refused : (f : BindFault) (result : Fault) → IsBindRefusal (design_view design) score.instance f result → IsScoreFault score.dump before after (habit_in score) design score.instance (score_fault.Bind f) → IsScoringFault score design before after result
+  pub bind_refused : (f : BindFault) (result : Fault) → IsBindRefusal score.instance f result → IsScoreFault score.dump before after (habit_in score) design score.instance (score_fault.Bind f) → IsScoringFault score design before after result
   bind_refused bind_fault.NoInstance (fault.Dump (refusal.NoInstance path)) same is = (is.0, is.1, (same, is.2))
   bind_refused bind_fault.NoInstance (fault.Dump (refusal.At kind byte)) same is = absurd same
-  bind_refused bind_fault.NoInstance (fault.Dump (refusal.InputNotDumped path)) same is = absurd same
   bind_refused bind_fault.NoInstance (fault.Dump (refusal.NoBaseline path)) same is = absurd same
-  bind_refused (bind_fault.InputNotDumped s) (fault.Dump (refusal.InputNotDumped path)) same is = (is.0, is.1, (s, same, is.2))
-  bind_refused (bind_fault.InputNotDumped s) (fault.Dump (refusal.At kind byte)) same is = absurd same
-  bind_refused (bind_fault.InputNotDumped s) (fault.Dump (refusal.NoInstance path)) same is = absurd same
-  bind_refused (bind_fault.InputNotDumped s) (fault.Dump (refusal.NoBaseline path)) same is = absurd same
   bind_refused bind_fault.NoMemory (fault.Dump r) same is = absurd same
   bind_refused bind_fault.NoMemory fault.Memory same is = tt
   bind_refused bind_fault.NoInstance fault.Memory same is = tt
-  bind_refused (bind_fault.InputNotDumped s) fault.Memory same is = tt
   bind_refused bind_fault.NoMemory (fault.Usage usage) same is = absurd same
   bind_refused bind_fault.NoMemory (fault.Source g) same is = absurd same
   bind_refused bind_fault.NoMemory (fault.NoMachine name) same is = absurd same
@@ -74,20 +63,12 @@ module _ (score : ScoreValues) (design : Design) (before after : Outside) where
   bind_refused bind_fault.NoInstance (fault.Contradiction x) same is = absurd same
   bind_refused bind_fault.NoInstance (fault.Files call file) same is = absurd same
   bind_refused bind_fault.NoInstance (fault.Databases g) same is = absurd same
-  bind_refused (bind_fault.InputNotDumped s) (fault.Usage usage) same is = absurd same
-  bind_refused (bind_fault.InputNotDumped s) (fault.Source g) same is = absurd same
-  bind_refused (bind_fault.InputNotDumped s) (fault.NoMachine name) same is = absurd same
-  bind_refused (bind_fault.InputNotDumped s) (fault.Points p) same is = absurd same
-  bind_refused (bind_fault.InputNotDumped s) (fault.Contradiction x) same is = absurd same
-  bind_refused (bind_fault.InputNotDumped s) (fault.Files call file) same is = absurd same
-  bind_refused (bind_fault.InputNotDumped s) (fault.Databases g) same is = absurd same
 
   -- a fault of the replay
   pub replay_refused : (f : ReplayFault) (result : Fault) → IsReplayRefusal (design_view design) f result → IsScoreFault score.dump before after (habit_in score) design score.instance (score_fault.Replay f) → IsScoringFault score design before after result
   replay_refused (replay_fault.NoBaseline s) (fault.Dump (refusal.NoBaseline path)) same is = (is.0, is.1, (s, same, is.2))
   replay_refused (replay_fault.NoBaseline s) (fault.Dump (refusal.At kind byte)) same is = absurd same
   replay_refused (replay_fault.NoBaseline s) (fault.Dump (refusal.NoInstance path)) same is = absurd same
-  replay_refused (replay_fault.NoBaseline s) (fault.Dump (refusal.InputNotDumped path)) same is = absurd same
   replay_refused (replay_fault.NoBaseline s) (fault.Contradiction x) same is = absurd same
   replay_refused (replay_fault.NoBaseline s) fault.Memory same is = tt
   replay_refused (replay_fault.Contradiction s time dumped computed) (fault.Contradiction x) same is =

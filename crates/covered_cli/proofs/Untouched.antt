@@ -49,6 +49,7 @@ databases_not_done database.Print same = cc
 databases_not_done database.Memory same = cc
 databases_not_done (database.NoDatabase file kind line) same = cc
 databases_not_done (database.DesignsDiffer file line first other) same = cc
+databases_not_done (database.Point file refusal address) same = cc
 
 -- no fault has status 0
 pub fault_not_done : (fault : Fault) → status_of fault ≡ status.Done → ⊥

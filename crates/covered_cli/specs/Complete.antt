@@ -9,7 +9,7 @@ use Rattle.design_points.specs.Counted.{HasFewPoints}
 use Rattle.design_points.specs.cover_points.declared.fault.PointFault.{PointFault}
 use Rattle.shown_dumps.specs.Bound.{IsBound}
 use Rattle.shown_dumps.specs.Shown.{bound_dump}
-use Rattle.signal_binding.specs.Binding.{IsBindable}
+use Rattle.signal_binding.specs.Binding.{HasInstance}
 use Rattle.vcd_reader.specs.Dump.{Dump as SpecDump, IsDump, SaysBody}
 use Rattle.vcd_reader.specs.Reading.{Body}
 use Rattle.covered_cli.specs.DumpRefusal.{refusal_line}
@@ -38,7 +38,7 @@ pub record HaveTexts (score : ScoreValues) (before : Outside) (design : Design) 
   pub has_design : HasDesign score before sources design
   pub dump_is : HasText before score.dump text
 
--- the sources have a design, the dump has the instance, each input, and a first value of each signal that it has, and some run of the design shows it
+-- the sources have a design, the dump has the instance and a first value of each signal that it has, and some run of the design shows it
 pub record IsGoodScore (score : ScoreValues) (before : Outside) : Type 0 where
   pub text : List ℕ
   pub design : Design
@@ -65,26 +65,25 @@ pub record LacksPoints (score : ScoreValues) (before : Outside) : Type 0 where
   pub stands : StandFor sources (sources_in score).defines score.top design
   pub refused : (ms : StateMachines) → AreMachinesOf score (design_view design) ms → HasFewPoints (design_view design) ms → ⊥
 
--- the sources have a design, and the text of the dump is none that has the instance, each input, and a first value of each signal that it has
+-- the sources have a design, and the text of the dump is none that has the instance, and a first value of each signal that it has
 pub record HasBadDump (score : ScoreValues) (before : Outside) : Type 0 where
   pub text : List ℕ
   pub design : Design
   pub texts : HaveTexts score before design text
   pub refused : HasNoScore design score.instance text
 
--- the sources have a design, and the header of the dump is read, but the design is not bound to its variables
+-- the sources have a design, and the header of the dump is read, but the instance is not there
 pub record HasUnboundDump (score : ScoreValues) (before : Outside) : Type 0 where
   pub text : List ℕ
   pub design : Design
   pub b : Body
   pub texts : HaveTexts score before design text
   pub says : SaysBody text b
-  pub refused : IsBindable design b.vars score.instance → ⊥
+  pub refused : HasInstance b.vars score.instance → ⊥
 
 -- the refusal is one of the binding
 abbrev pub IsOfBinding : DumpRefusal → Type 0
 IsOfBinding (refusal.NoInstance path) = Unit {0}
-IsOfBinding (refusal.InputNotDumped path) = Unit {0}
 IsOfBinding other = ⊥
 
 -- the words are a command whose dump is refused for its binding, and the line of that was warned

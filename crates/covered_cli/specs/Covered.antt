@@ -1,9 +1,10 @@
 -- What a call of the program leaves outside, and why it ends with a status above 0.
 use Rattle.std.specs.Prelude.{◌≡◌, ◌⊎◌, ℕ, List, [], ◌∷◌, Contains, Option, Some, None, MatchOption}
-use Rattle.command_line.specs.Command.{AreWordsOf, CommandValues, score, merge, report, lcov, rank}
+use Rattle.command_line.specs.Command.{AreWordsOf, CommandValues, score, merge, report, lcov, rank, exclude, restore}
 use Rattle.command_line.specs.CommandWords.{IsScore, ScoreValues}
 use Rattle.command_line.specs.DatabaseWords.{IsMerge, IsReport, MergeValues, ReportValues}
 use Rattle.command_line.specs.LcovWords.{IsLcov, LcovValues}
+use Rattle.command_line.specs.PointWords.{PointValues}
 use Rattle.command_line.specs.RankWords.{IsRank, RankValues}
 use Rattle.command_line.specs.UsageFault.{HasUsageFault}
 use Rattle.command_line.specs.declared.usage_fault.UsageFault.{UsageFault}
@@ -11,10 +12,14 @@ use Rattle.cov_host.specs.Outside.{Outside, Files, IsCounted}
 use Rattle.coverage_db.specs.declared.fault.DbKind.{DbKind}
 use Rattle.database_commands.specs.Complete.{IsGoodMerge, IsGoodReport}
 use Rattle.database_commands.specs.Faults.{IsNoTable, IsOtherDesign, inputs_of}
+use Rattle.database_commands.specs.Excluding.{IsGoodChange, IsNoExclusion, IsRefusedPoint}
 use Rattle.database_commands.specs.Ranking.{IsGoodRank, ranked_files}
+use Rattle.database_commands.specs.declared.change.Change.{Change}
+use Rattle.db_tools.specs.declared.fault.ToolFault.{ToolFault}
 use Rattle.database_commands.specs.Reporting.{LeavesAll, LeavesFront}
 use Rattle.database_commands.specs.Tracing.{IsGoodLcov}
 use Rattle.source_design.specs.Reading.{LacksAt}
+use Rattle.covered_cli.specs.PointCommands.{points_command}
 use Rattle.covered_cli.specs.Effects.{WarnsLine}
 use Rattle.covered_cli.specs.Fault.{IsEarly, Stands, line_of, status_of}
 use Rattle.covered_cli.specs.ScoreSources.{sources_in}
@@ -40,6 +45,8 @@ output_in (merge values) = Some values.output
 output_in (report values) = values.output
 output_in (lcov values) = Some values.output
 output_in (rank values) = None
+output_in (exclude values) = Some values.output
+output_in (restore values) = Some values.output
 
 -- the files that a command reads
 abbrev pub inputs_in : CommandValues → List (List ℕ)
@@ -48,6 +55,8 @@ inputs_in (merge values) = inputs_of values
 inputs_in (report values) = values.file ∷ []
 inputs_in (lcov values) = values.file ∷ []
 inputs_in (rank values) = ranked_files values
+inputs_in (exclude values) = values.file ∷ []
+inputs_in (restore values) = values.file ∷ []
 
 -- the words name the file for the output
 abbrev pub IsOutput : List (List ℕ) → List ℕ → Type 0
@@ -102,25 +111,35 @@ HasNoTable before name = (kind : DbKind) × (line : Option ℕ) × IsNoTable nam
 abbrev pub AreOfTwoDesigns : Outside → List ℕ → List ℕ → Type 0
 AreOfTwoDesigns before first name = (line : ℕ) × (a : List ℕ) × (b : List ℕ) × IsOtherDesign first name before line a b
 
--- the words merge or rank a file that is no table's, or one of another design than the first, or report or trace one that is no table's
+-- the file is that of no table with excluded points
+abbrev pub HasNoExclusion : Outside → List ℕ → Type 0
+HasNoExclusion before name = (kind : DbKind) × (line : Option ℕ) × IsNoExclusion name before kind line
+
+-- one of the points of the words is refused
+abbrev pub HasRefusedPoint : Change → PointValues → Outside → Type 0
+HasRefusedPoint kind values before = (address : List ℕ) × (fault : ToolFault) × IsRefusedPoint kind values before address fault
+
+-- the words merge or rank a file that is no table's, or one of another design than the first, or report or trace one that is no table's, or exclude or restore points of one that is no table's, or a point that is refused
 abbrev pub HasDatabaseCause : List (List ℕ) → Outside → Type 0
 HasDatabaseCause words before =
     ((values : MergeValues) × (name : List ℕ) × IsMerge words values × Contains (inputs_of values) name × (HasNoTable before name ⊎ AreOfTwoDesigns before values.first name))
-    ⊎ ((values : ReportValues) × IsReport words values × HasNoTable before values.file)
+    ⊎ ((values : ReportValues) × IsReport words values × HasNoExclusion before values.file)
     ⊎ ((values : LcovValues) × IsLcov words values × HasNoTable before values.file)
     ⊎ ((values : RankValues) × (name : List ℕ) × IsRank words values × Contains (ranked_files values) name × (HasNoTable before name ⊎ AreOfTwoDesigns before values.first name))
+    ⊎ ((kind : Change) × (values : PointValues) × AreWordsOf (points_command kind values) words × (HasNoExclusion before values.file ⊎ HasRefusedPoint kind values before))
 
 -- the words are a score, and no run of the design of its sources shows its dump
 abbrev pub HasContradiction : List (List ℕ) → Outside → Type 0
 HasContradiction words before = (values : ScoreValues) × IsScore words values × (found : Contradiction) × IsContradictedDump values before found
 
--- the words merge or rank files that have tables of one design, or report or trace a file that has a table
+-- the words merge or rank files that have tables of one design, or report or trace a file that has a table, or exclude or restore points that can be
 abbrev pub HasGoodDatabases : List (List ℕ) → Outside → Type 0
 HasGoodDatabases words before =
     ((values : MergeValues) × IsMerge words values × IsGoodMerge values before)
     ⊎ ((values : ReportValues) × IsReport words values × IsGoodReport values before)
     ⊎ ((values : LcovValues) × IsLcov words values × IsGoodLcov values before)
     ⊎ ((values : RankValues) × IsRank words values × IsGoodRank values before)
+    ⊎ ((kind : Change) × (values : PointValues) × AreWordsOf (points_command kind values) words × IsGoodChange kind values before)
 
 -- all files, and what was printed, are as before; or the output, or what was printed, has a front of the text that the words ask for
 abbrev pub Leaves : List (List ℕ) → Outside → Outside → Type 0

@@ -3,7 +3,7 @@ use Rattle.std.specs.Prelude.{ℕ, List, ◌++◌, codes, decimal}
 use Rattle.vcd_reader.specs.declared.fault.DumpKind.{DumpKind}
 use Rattle.vcd_reader.specs.declared.fault.DumpKind.TheVariants.{BadHeader, BadChange, UnknownCode, VectorTooLong, TimeBack, Truncated, LongCode, Gap, DeepScope, DumpTooLong, TimeTooLarge, HeaderTooLong}
 use Rattle.covered_cli.specs.declared.dump_refusal.DumpRefusal.{DumpRefusal}
-use Rattle.covered_cli.specs.declared.dump_refusal.DumpRefusal.TheVariants.{At, NoInstance, InputNotDumped, NoBaseline}
+use Rattle.covered_cli.specs.declared.dump_refusal.DumpRefusal.TheVariants.{At, NoInstance, NoBaseline}
 
 -- the number and the name of a fault of a dump
 abbrev pub kind_text : DumpKind → List ℕ
@@ -24,5 +24,4 @@ kind_text HeaderTooLong = codes "12 HeaderTooLong"
 abbrev pub refusal_line : DumpRefusal → List ℕ
 refusal_line (At kind byte) = codes "covered: dump: " ++ kind_text kind ++ codes " at byte " ++ decimal byte ++ codes "\n"
 refusal_line (NoInstance path) = codes "covered: dump: bind 1 NoInstance " ++ path.now ++ codes "\n"
-refusal_line (InputNotDumped path) = codes "covered: dump: bind 2 InputNotDumped " ++ path ++ codes "\n"
 refusal_line (NoBaseline path) = codes "covered: dump: bind 3 NoBaseline " ++ path ++ codes "\n"

@@ -1,18 +1,23 @@
 -- Why a command ends with a status above 0, and the line that says so.
 use Rattle.std.specs.Prelude.{◌≡◌, ◌⊎◌, ℕ, List, ◌++◌, codes, Option, Some, None}
 use Rattle.std.specs.Option.{option_copied}
+use Rattle.command_line.specs.Command.{AreWordsOf}
 use Rattle.command_line.specs.CommandWords.{HaveForms, IsScore, ScoreValues, score_values}
 use Rattle.command_line.specs.DatabaseWords.{IsMerge, IsReport, MergeValues, ReportValues, merge_values, report_values}
 use Rattle.command_line.specs.LcovWords.{IsLcov, LcovValues, lcov_values}
+use Rattle.command_line.specs.PointWords.{PointValues, point_values}
 use Rattle.command_line.specs.RankWords.{IsRank, RankValues, rank_values}
 use Rattle.command_line.specs.UsageFault.{HasUsageFault, usage_text}
 use Rattle.command_line.specs.declared.command.Command.{Command}
-use Rattle.command_line.specs.declared.command.Command.TheVariants.{Score, Merge, Report, Lcov, Rank}
+use Rattle.command_line.specs.declared.command.Command.TheVariants.{Score, Merge, Report, Lcov, Rank, Exclude, Restore}
 use Rattle.cov_host.specs.Outside.{Outside}
 use Rattle.database_commands.specs.Faults.{IsEarly as IsEarlyDatabase, IsMergeFault}
+use Rattle.database_commands.specs.Excluding.{IsPointsFault as IsChangeFault}
 use Rattle.database_commands.specs.Ranking.{IsRankFault}
 use Rattle.database_commands.specs.Reporting.{IsReportFault}
 use Rattle.database_commands.specs.Tracing.{IsLcovFault}
+use Rattle.database_commands.specs.declared.change.Change.{Change}
+use Rattle.database_commands.specs.declared.change.Change.TheVariants as change
 use Rattle.database_commands.specs.declared.fault.CommandFault.{CommandFault}
 use Rattle.design_model.specs.View.{design_view}
 use Rattle.design_model.specs.declared.design.Design.{Design}
@@ -20,6 +25,7 @@ use Rattle.dump_score.specs.Reading.{IsFile}
 use Rattle.state_machines.specs.Machines.{StateMachines}
 use Rattle.command_line.specs.DrawingWords.{DrawingNames}
 use Rattle.design_model.specs.Design.{Design as Tree}
+use Rattle.covered_cli.specs.PointCommands.{points_command}
 use Rattle.covered_cli.specs.Drawing.{IsNoMachineFor, IsNoMachineOf}
 use Rattle.design_points.specs.cover_points.Faults.{IsPointFault}
 use Rattle.whole_files.specs.Call.{call_name}
@@ -96,6 +102,8 @@ output_of (Merge merge) = Some merge.output.now
 output_of (Report report) = option_copied report.output
 output_of (Lcov lcov) = Some lcov.output.now
 output_of (Rank rank) = None
+output_of (Exclude points) = Some points.output.now
+output_of (Restore points) = Some points.output.now
 
 -- the values of a score have their forms
 abbrev pub HasForms : Command → Type 0
@@ -104,6 +112,8 @@ HasForms (Merge merge) = Unit {0}
 HasForms (Report report) = Unit {0}
 HasForms (Lcov lcov) = Unit {0}
 HasForms (Rank rank) = Unit {0}
+HasForms (Exclude points) = Unit {0}
+HasForms (Restore points) = Unit {0}
 
 -- the fault is one of a command over databases, of which this holds
 abbrev pub IsDatabaseFault : (CommandFault → Type 0) → Fault → Type 0
@@ -117,6 +127,8 @@ StandsInWork (Merge merge) before after fault = IsDatabaseFault (IsMergeFault (m
 StandsInWork (Report report) before after fault = IsDatabaseFault (IsReportFault (report_values report) before after) fault
 StandsInWork (Lcov lcov) before after fault = IsDatabaseFault (IsLcovFault (lcov_values lcov) before after) fault
 StandsInWork (Rank rank) before after fault = IsDatabaseFault (IsRankFault (rank_values rank) before after) fault
+StandsInWork (Exclude points) before after fault = IsDatabaseFault (IsChangeFault change.Exclude (point_values points) before after) fault
+StandsInWork (Restore points) before after fault = IsDatabaseFault (IsChangeFault change.Restore (point_values points) before after) fault
 
 -- the words are a command over databases that has the fault
 abbrev pub StandsInDatabases : List (List ℕ) → Outside → Outside → CommandFault → Type 0
@@ -125,6 +137,7 @@ StandsInDatabases words before after f =
     ⊎ ((report : ReportValues) × IsReport words report × IsReportFault report before after f)
     ⊎ ((lcov : LcovValues) × IsLcov words lcov × IsLcovFault lcov before after f)
     ⊎ ((rank : RankValues) × IsRank words rank × IsRankFault rank before after f)
+    ⊎ ((kind : Change) × (points : PointValues) × AreWordsOf (points_command kind points) words × IsChangeFault kind points before after f)
 
 -- a call of the program with these words has the fault between two outsides
 abbrev pub Stands : List (List ℕ) → Outside → Outside → Fault → Type 0

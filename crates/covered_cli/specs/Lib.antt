@@ -5,6 +5,7 @@ pub mod Covered
 pub mod Effects
 pub mod Databases
 pub mod Headline
+pub mod PointCommands
 pub mod Scoring
 pub mod Refusing
 pub mod Fault

@@ -2,14 +2,16 @@
 use Rattle.std.specs.Prelude.{◌≡◌, ℕ, false, List, map}
 use Rattle.std.specs.List.{list_any}
 use Rattle.command_line.specs.CommandWords.{IsScore, ScoreValues}
-use Rattle.command_line.specs.Command.{AreWordsOf, CommandValues, score as of_score, merge as of_merge, report as of_report, lcov as of_lcov, rank as of_rank, command_values}
+use Rattle.command_line.specs.Command.{AreWordsOf, CommandValues, score as of_score, merge as of_merge, report as of_report, lcov as of_lcov, rank as of_rank, exclude as of_exclude, restore as of_restore, command_values}
 use Rattle.command_line.specs.declared.command.Command.{Command}
 use Rattle.cov_host.specs.Outside.{Outside, HasFile, Told}
 use Rattle.coverage_db.specs.Text.{text_of}
 use Rattle.coverage_db.specs.declared.db.Db.{Db}
+use Rattle.database_commands.specs.Excluding.{IsChangedIn, IsChangedText}
 use Rattle.database_commands.specs.Merging.{IsMergedIn, IsMergedText}
 use Rattle.database_commands.specs.Ranking.{IsRankedIn, IsRankedText}
 use Rattle.database_commands.specs.Reporting.{IsReportedIn, IsReportedText}
+use Rattle.database_commands.specs.declared.change.Change.TheVariants as change
 use Rattle.database_commands.specs.Tracing.{IsTracedIn, IsTracedText}
 use Rattle.design_model.specs.Design.{path_of}
 use Rattle.design_model.specs.View.{design_view}
@@ -24,7 +26,6 @@ use Rattle.event_machine.specs.Habit.{Habit}
 use Rattle.dump_score.specs.score_tables.Head.{HasHead}
 use Rattle.dump_score.specs.score_tables.Windows.{windows_of}
 use Rattle.shown_dumps.specs.Bound.{HasNoBaseline, IsBound}
-use Rattle.signal_binding.specs.Binding.{IsNotDumped}
 use Rattle.signal_binding.specs.Names.{stands_in}
 use Rattle.source_design.specs.Accepted.{StandFor}
 use Rattle.source_design.specs.Reading.{HasSources}
@@ -74,7 +75,7 @@ HasSomeDesign score before = (sources : List SourceText) × (design : Design) ×
 abbrev pub names_of : List SourceText → List (List ℕ)
 names_of sources = map (λ source. source.name) sources
 
--- the text is no dump that has the instance, a variable of each input, and a first value of each signal that has a variable
+-- the text is no dump that has the instance, and a first value of each signal that has a variable
 abbrev pub HasNoScore : Design → List ℕ → List ℕ → Type 0
 HasNoScore design instance text = (dump : Dump) → IsDump text dump → IsBound design dump instance → ⊥
 
@@ -100,8 +101,6 @@ pub record IsScoreText (habit : Habit) (design : Design) (machines : StateMachin
 abbrev pub IsDumpRefusal : Design → List ℕ → List ℕ → DumpRefusal → Type 0
 IsDumpRefusal design instance text (refusal.At kind byte) = IsDumpFault design instance text (At kind byte)
 IsDumpRefusal design instance text (refusal.NoInstance path) = (path.now ≡ instance) × SaysSome text (λ b. list_any (stands_in instance) b.vars ≡ false)
-IsDumpRefusal design instance text (refusal.InputNotDumped path) =
-    (s : ℕ) × (path ≡ path_of (design_view design) s) × SaysSome text (λ b. IsNotDumped design b.vars instance s)
 IsDumpRefusal design instance text (refusal.NoBaseline path) =
     (s : ℕ) × (path ≡ path_of (design_view design) s) × SaysSome text (λ b. HasNoBaseline design b.vars instance b.items s)
 
@@ -154,6 +153,8 @@ IsDoneBy (of_merge values) before after = IsMergedIn values before after
 IsDoneBy (of_report values) before after = IsReportedIn values before after
 IsDoneBy (of_lcov values) before after = IsTracedIn values before after
 IsDoneBy (of_rank values) before after = IsRankedIn values before after
+IsDoneBy (of_exclude values) before after = IsChangedIn change.Exclude values before after
+IsDoneBy (of_restore values) before after = IsChangedIn change.Restore values before after
 
 -- the text is the one that a command with these values asks for
 abbrev pub IsTextOf : CommandValues → Outside → List ℕ → Type 0
@@ -162,6 +163,8 @@ IsTextOf (of_merge values) before text = IsMergedText values before text
 IsTextOf (of_report values) before text = IsReportedText values before text
 IsTextOf (of_lcov values) before text = IsTracedText values before text
 IsTextOf (of_rank values) before text = IsRankedText values before text
+IsTextOf (of_exclude values) before text = IsChangedText change.Exclude values before text
+IsTextOf (of_restore values) before text = IsChangedText change.Restore values before text
 
 -- what the command asks for was done
 abbrev pub IsDoneWork : Command → Outside → Outside → Type 0

@@ -1,7 +1,7 @@
 ghost use Rattle.std.specs.Prelude.{◌≡◌, ◌++◌, codes, decimal};
 ghost use Rattle.cov_host.specs.Outside.{KeepsFiles, KeepsInput, KeepsOutput};
 ghost use Rattle.whole_files.specs.Effects.{CountsUp};
-ghost use Rattle.covered_cli.specs.Databases.{database_line, database_status, kind_text, line_text};
+ghost use Rattle.covered_cli.specs.Databases.{database_line, database_status, kind_text, line_text, refusal_text};
 ghost use Rattle.covered_cli.specs.Effects.{WarnsLine};
 
 use crate::Status;
@@ -10,6 +10,7 @@ use crate::pieces::warn_pieces;
 use cov_host::Host;
 use coverage_db::DbKind;
 use database_commands::CommandFault;
+use db_tools::ToolFault;
 use itoa::Buffer;
 
 /// The status with which a fault of a command over databases ends.
@@ -19,7 +20,9 @@ pub(crate) fn database_status(fault: &CommandFault<'_>) -> Status
     match fault {
         CommandFault::Files { .. } | CommandFault::Print => Status::Files,
         CommandFault::Memory => Status::Memory,
-        CommandFault::NoDatabase { .. } | CommandFault::DesignsDiffer { .. } => Status::Database,
+        CommandFault::NoDatabase { .. }
+        | CommandFault::DesignsDiffer { .. }
+        | CommandFault::Point { .. } => Status::Database,
     }
 }
 
@@ -43,6 +46,11 @@ pub(crate) fn warn_database<H: Host>(host: &mut H, fault: &CommandFault<'_>)
             first,
             other,
         } => warn_difference(host, file, *line, first.as_slice(), other.as_slice()),
+        CommandFault::Point {
+            file,
+            fault,
+            address,
+        } => warn_fault(host, file, text_of_refusal(*fault), " ", address),
     }
 }
 
@@ -62,7 +70,7 @@ fn warn_kind<H: Host>(host: &mut H, file: &str, kind: DbKind, line: Option<u32>)
     }
 }
 
-/// Warns of a fault of a database, with a space and the number of its line, or with neither.
+/// Warns of a fault of a database, with a space and the number of its line or the address of a point, or with neither.
 fn warn_fault<'a, H: Host>(
     host: &mut H,
     file: &'a str,
@@ -144,5 +152,16 @@ fn text_of(kind: DbKind) -> &'static str
         DbKind::WrongVersion => "2 WrongVersion",
         DbKind::WrongCount => "3 WrongCount",
         DbKind::DbTooLong => "5 DbTooLong",
+    }
+}
+
+/// The number and the name of a refusal of a point.
+fn text_of_refusal(fault: ToolFault) -> &'static str
+    ensures { result.now ≡ refusal_text fault }
+{
+    match fault {
+        ToolFault::NoPoint => "6 NoPoint",
+        ToolFault::AlreadyOut => "7 AlreadyOut",
+        ToolFault::NotOut => "8 NotOut",
     }
 }

@@ -16,8 +16,6 @@ pub(crate) enum DumpRefusal<'a> {
     At { kind: DumpKind, byte: u64 },
     /// No variable is in the scope of the path or below it.
     NoInstance { path: &'a str },
-    /// The input of this path has no variable of its width under any of its names.
-    InputNotDumped { path: Name },
     /// There is a second time, and the signal of this path, which is bound, has no value before it.
     NoBaseline { path: Name },
 }
@@ -34,9 +32,6 @@ pub(crate) fn warn_refusal<H: Host>(host: &mut H, refusal: &DumpRefusal<'_>)
     match refusal {
         DumpRefusal::At { kind, byte } => warn_fault(host, *kind, *byte),
         DumpRefusal::NoInstance { path } => warn_instance(host, path),
-        DumpRefusal::InputNotDumped { path } => {
-            warn_signal(host, "2 InputNotDumped ", path.as_slice())
-        }
         DumpRefusal::NoBaseline { path } => warn_signal(host, "3 NoBaseline ", path.as_slice()),
     }
 }

@@ -19,7 +19,7 @@ ghost use Rattle.database_commands.specs.Reporting.{LeavesFront};
 ghost use Rattle.whole_files.specs.Effects.{CountsUp, HoldsFront, OnlyReads};
 ghost use Rattle.covered_cli.specs.Fault.{IsDesignFault, IsPointsFault, StandsIn, IsEarly, IsWritingFault, IsScoringFault};
 ghost use Rattle.covered_cli.specs.Headline.{KeepsOthers};
-ghost use Rattle.covered_cli.specs.Refusing.{IsBindRefusal, IsReplayRefusal, NamesSignal};
+ghost use Rattle.covered_cli.specs.Refusing.{IsBindRefusal, IsReplayRefusal};
 ghost use Rattle.covered_cli.specs.ScoreMachines.{habit_when};
 ghost use Rattle.covered_cli.specs.ScoreSources.{sources_in};
 ghost use Rattle.covered_cli.specs.Scoring.{IsDoneIn, IsScoredText};
@@ -176,29 +176,18 @@ fn fault_of<'a>(
         ScoreFault::Dump(DumpFault::At { kind, byte }) => {
             Fault::Dump(DumpRefusal::At { kind, byte })
         }
-        ScoreFault::Bind(fault) => bind_refusal(alloc, design, words.instance, fault),
+        ScoreFault::Bind(fault) => bind_refusal(words.instance, fault),
         ScoreFault::Replay(fault) => replay_refusal(alloc, design, fault),
     }
 }
 
 /// The fault of the program that a fault of the binding is.
-fn bind_refusal<'a>(
-    alloc: Global,
-    design: &Design,
-    instance: &'a str,
-    fault: BindFault,
-) -> Fault<'a>
-    requires lawful { IsLawfulDesign (design_view design.now) }
-    requires signal { NamesSignal (length design.now.signals) fault }
-    ensures { IsBindRefusal (design_view design.now) instance.now fault result }
+fn bind_refusal<'a>(instance: &'a str, fault: BindFault) -> Fault<'a>
+    ensures { IsBindRefusal instance.now fault result }
 {
     match fault {
         BindFault::NoMemory => Fault::Memory,
         BindFault::NoInstance => Fault::Dump(DumpRefusal::NoInstance { path: instance }),
-        BindFault::InputNotDumped { signal } => match path_of(alloc, design, signal) {
-            Ok(path) => Fault::Dump(DumpRefusal::InputNotDumped { path }),
-            Err(NoMemory) => Fault::Memory,
-        },
     }
 }
 

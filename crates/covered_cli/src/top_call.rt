@@ -16,7 +16,7 @@ use crate::message::warn_of;
 use crate::score::run_score;
 use command_line::{Command, read_command};
 use cov_host::{Host, Words};
-use database_commands::{run_lcov, run_merge, run_rank, run_report};
+use database_commands::{run_exclude, run_lcov, run_merge, run_rank, run_report, run_restore};
 use std::alloc::Global;
 
 /// Does all that the program does with the words that follow its name. A status above 0 is warned of in one line,
@@ -33,8 +33,9 @@ pub fn covered<H: Host>(alloc: Global, words: &Words, host: &mut H) -> Status
     ensures unprinted { HasEarlyStatus result → (H.outside host.new).printed ≡ (H.outside host.old).printed }
 
     // With status 0 the output holds what the command asks for: of a score the table of the sources and the dump; of a merge the
-    // merge of the tables of the files; of a report its text, which was printed where no file is named; of `lcov` the
-    // tracefile of the table of the file. Of `rank` the text of the ranking of the tables of the files was printed.
+    // merge of the tables of the files; of a report its text, without the excluded points, which was printed where no
+    // file is named; of `lcov` the tracefile of the table of the file; of `exclude` and `restore` the text of the table of
+    // the file with the points of the words excluded, or no longer. Of `rank` the text of the ranking of the tables of the files was printed.
     ensures done { result ≡ Status.Done → IsDone words.now (H.outside host.old) (H.outside host.new) }
 
     // The headline: of a score with status 0, the dump fits the design of the sources; the table lists each coverage point of the
@@ -141,6 +142,14 @@ fn run_command<'a, H: Host>(
             Err(fault) => Err(Fault::Databases(fault)),
         },
         Command::Rank(words) => match run_rank(alloc, words, host) {
+            Ok(()) => Ok(()),
+            Err(fault) => Err(Fault::Databases(fault)),
+        },
+        Command::Exclude(words) => match run_exclude(alloc, words, host) {
+            Ok(()) => Ok(()),
+            Err(fault) => Err(Fault::Databases(fault)),
+        },
+        Command::Restore(words) => match run_restore(alloc, words, host) {
             Ok(()) => Ok(()),
             Err(fault) => Err(Fault::Databases(fault)),
         },

@@ -25,6 +25,14 @@ const DUMP: &str =
 const DATABASE: &str =
     "covered-db 2\ntop pads\nsource 1 pads.v\ninstance pads pads\npoints 6\nt pads a 0 01 = hit\nt pads a 0 10 = missed\nt pads a 1 01 = hit\nt pads a 1 10 = missed\nt pads clk - 01 = hit\nt pads clk - 10 = hit\nwindows 1\nwindow 0 15\nend\n";
 
+/// A dump that lacks the input `a`.
+const WITHOUT_A: &str =
+    "$scope module tb $end\n$scope module dut $end\n$var wire 1 ! clk $end\n$upscope $end\n$upscope $end\n$enddefinitions $end\n#0\n0!\n#5\n1!\n#10\n0!\n#15\n1!\n";
+
+/// Its database: `a` may move between the first two times.
+const OPEN_A: &str =
+    "covered-db 2\ntop pads\nsource 1 pads.v\ninstance pads pads\npoints 6\nt pads a 0 01 = ? 1 pads.a\nt pads a 0 10 = ? 1 pads.a\nt pads a 1 01 = ? 1 pads.a\nt pads a 1 10 = ? 1 pads.a\nt pads clk - 01 = hit\nt pads clk - 10 = hit\nwindows 1\nwindow 0 15\nend\n";
+
 /// A dump as a simulator writes it, with a real variable, a parameter, groups and a comment in the body.
 const REALISTIC: &str =
     "$date\n\tThu Jan  4 12:00:00 2024\n$end\n$version\n\town example\n$end\n$timescale\n\t1ns\n$end\n$scope module tb $end\n$var reg 1 ! clk $end\n$var real 1 ) load $end\n$scope module dut $end\n$var wire 1 ! clk $end\n$var wire 2 \" a [1:0] $end\n$var parameter 2 ' IDLE $end\n$upscope $end\n$upscope $end\n$enddefinitions $end\n$comment Show the parameter values. $end\n$dumpall\nb0 '\n$end\n#0\n$dumpvars\nr0 )\n0!\nb0 \"\n$end\n#5\n1!\nb1 \"\n#10\n0!\nb1x \"\n#15\n1!\n";
@@ -76,11 +84,6 @@ const SCORE: &[&str] = &[
 /// The same where it is not.
 const ELSEWHERE: &[&str] = &[
     "score", "-t", "pads", "-i", "tb.x", "-v", "pads.v", "-vcd", "D", "-o", "B",
-];
-
-/// The same where the scope has no inputs.
-const OUTSIDE: &[&str] = &[
-    "score", "-t", "pads", "-i", "tb", "-v", "pads.v", "-vcd", "D", "-o", "B",
 ];
 
 /// Scores a module of two sources with an included file and a macro.
@@ -135,6 +138,7 @@ const NONE: File = ("B", "");
 const SCORED: &[Case] = &[
     Case { words: SCORE, files: &[("pads.v", SOURCE), ("D", DUMP)], status: Status::Done, output: ("B", DATABASE), printed: "", warned: "" },
     Case { words: SCORE, files: &[("pads.v", SOURCE), ("D", REALISTIC)], status: Status::Done, output: ("B", DATABASE), printed: "", warned: "" },
+    Case { words: SCORE, files: &[("pads.v", SOURCE), ("D", WITHOUT_A)], status: Status::Done, output: ("B", OPEN_A), printed: "", warned: "" },
 ];
 
 /// Dumps that are refused, and sources with what they include.
@@ -142,7 +146,6 @@ const SCORED: &[Case] = &[
 const DUMPS: &[Case] = &[
     // dumps that are refused
     Case { words: ELSEWHERE, files: &[("pads.v", SOURCE), ("D", DUMP)], status: Status::Dump, output: NONE, printed: "", warned: "covered: dump: bind 1 NoInstance tb.x\n" },
-    Case { words: OUTSIDE, files: &[("pads.v", SOURCE), ("D", DUMP)], status: Status::Dump, output: NONE, printed: "", warned: "covered: dump: bind 2 InputNotDumped pads.clk\n" },
     Case { words: SCORE, files: &[("pads.v", SOURCE), ("D", NO_BASELINE)], status: Status::Dump, output: NONE, printed: "", warned: "covered: dump: bind 3 NoBaseline pads.a\n" },
     Case { words: SCORE, files: &[("pads.v", SOURCE), ("D", TIME_BACK)], status: Status::Dump, output: NONE, printed: "", warned: "covered: dump: 5 TimeBack at byte 141\n" },
     // sources with what they include

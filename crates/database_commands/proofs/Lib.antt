@@ -6,3 +6,6 @@ pub mod AnyOrder
 pub mod Reporting
 pub mod Tracing
 pub mod Ranking
+pub mod OneExclusion
+pub mod ExclusionReading
+pub mod Excluding

@@ -14,7 +14,7 @@ use Rattle.database_commands.specs.Files.{HoldTables, HoldsTable}
 use Rattle.database_commands.specs.Merging.{IsMergeOf}
 use Rattle.whole_files.specs.Refusals.{IsRefused}
 use Rattle.database_commands.specs.declared.fault.CommandFault.{CommandFault}
-use Rattle.database_commands.specs.declared.fault.CommandFault.TheVariants.{Files, Print, Memory, NoDatabase, DesignsDiffer}
+use Rattle.database_commands.specs.declared.fault.CommandFault.TheVariants.{Files, Print, Memory, NoDatabase, DesignsDiffer, Point}
 use Rattle.database_commands.proofs.MergedDesign.{differs_from_first, merged_all-push, merged_design}
 use Rattle.database_commands.proofs.Reading.{HoldTables-push, holds_before, no_table_before, refused_before}
 
@@ -111,6 +111,7 @@ table_fault merge before now after name effects later comes Memory is = tt
 table_fault merge before now after name effects later comes (NoDatabase file kind line) is =
     (subst (ComesTo (inputs_of merge) before) (sym is.0) comes, subst (λ name. IsNoTable name before kind line) (sym is.0) (no_table_before before now name kind line effects.files is.1))
 table_fault merge before now after name effects later comes (DesignsDiffer file line first other) is = absurd is
+table_fault merge before now after name effects later comes (Point file fault address) is = absurd is
 
 pub first_fault : (merge : MergeValues) (before after : Outside) → OnlyReads before before → OnlyReads before after → (fault : CommandFault) → IsTableFault merge.first before after fault → IsMergeFault merge before after fault
 first_fault merge before after same effects fault is = table_fault merge before before after merge.first same effects (comes_to_first merge before) fault is
@@ -125,6 +126,7 @@ join_fault merge before now after file left rest table other has next holds (Fil
 join_fault merge before now after file left rest table other has next holds Print is = absurd is
 join_fault merge before now after file left rest table other has next holds Memory is = tt
 join_fault merge before now after file left rest table other has next holds (NoDatabase name kind line) is = absurd is
+join_fault merge before now after file left rest table other has next holds (Point name fault address) is = absurd is
 join_fault merge before now after file left rest table other has next holds (DesignsDiffer name line first_line other_line) is = (
   subst (ComesTo (inputs_of merge) before) (sym is.0) (comes_to_next merge before now file left rest table has next),
   record {
@@ -144,3 +146,4 @@ write_fault merge before now after has effects later Print is = absurd is
 write_fault merge before now after has effects later Memory is = tt
 write_fault merge before now after has effects later (NoDatabase file kind line) is = absurd is
 write_fault merge before now after has effects later (DesignsDiffer file line first other) is = absurd is
+write_fault merge before now after has effects later (Point file fault address) is = absurd is

@@ -21,7 +21,7 @@ use Rattle.database_commands.specs.Faults.{ComesTo, IsJoinFault, IsNoTable, IsOt
 use Rattle.database_commands.specs.Files.{HoldTables, HoldsTable}
 use Rattle.database_commands.specs.Ranking.{AreHitsOf, HasRanking, IsGoodRank, IsJoined, IsRankFault, IsRankedText, IsRankingOf, IsReached, IsTextOfRanking, ranked_files}
 use Rattle.database_commands.specs.declared.fault.CommandFault.{CommandFault}
-use Rattle.database_commands.specs.declared.fault.CommandFault.TheVariants.{Files, Print, Memory, NoDatabase, DesignsDiffer}
+use Rattle.database_commands.specs.declared.fault.CommandFault.TheVariants.{Files, Print, Memory, NoDatabase, DesignsDiffer, Point}
 use Rattle.database_commands.proofs.Complete.{comes_at, one_design, refused_there, same_table, table_there}
 use Rattle.database_commands.proofs.MergedDesign.{differs_from_first, merged_design}
 use Rattle.database_commands.proofs.Reading.{HoldTables-push, holds_before, no_table_before, refused_before}
@@ -95,6 +95,7 @@ IsUnmerged rank before (Files call file) = ⊥
 IsUnmerged rank before Print = ⊥
 IsUnmerged rank before Memory = Unit {0}
 IsUnmerged rank before (NoDatabase file kind line) = ⊥
+IsUnmerged rank before (Point file fault address) = ⊥
 IsUnmerged rank before (DesignsDiffer file line first other) = ComesTo (ranked_files rank) before file.now × IsOtherDesign rank.first file.now before line first other
 
 abbrev pub IsMergeOfAll : RankValues → Outside → Db → List Db → Result Db CommandFault → Type 0
@@ -155,6 +156,7 @@ merge_more rank before now file left rest sets (Ok table) (Err (Files call name)
 merge_more rank before now file left rest sets (Ok table) (Err Print) other has is_next holds is kept = absurd is
 merge_more rank before now file left rest sets (Ok table) (Err Memory) other has is_next holds is kept = tt
 merge_more rank before now file left rest sets (Ok table) (Err (NoDatabase name kind line)) other has is_next holds is kept = absurd is
+merge_more rank before now file left rest sets (Ok table) (Err (Point name fault address)) other has is_next holds is kept = absurd is
 merge_more rank before now file left rest sets (Ok table) (Err (DesignsDiffer name line first_line other_line)) other has is_next holds is kept = (
   subst (ComesTo (ranked_files rank) before) (sym is.0) (comes_to_next rank before file has.read rest left has.first has.tables has.files is_next has.first_holds has.hold has.merge.of_one),
   record {
@@ -221,6 +223,7 @@ module _ (rank : RankValues) (before now : Outside) (left : List (List ℕ)) (se
   unmerged_fault after Print is = absurd (subst (IsMergeOfAll rank before has.first has.tables) is has.merge)
   unmerged_fault after Memory is = tt
   unmerged_fault after (NoDatabase file kind line) is = absurd (subst (IsMergeOfAll rank before has.first has.tables) is has.merge)
+  unmerged_fault after (Point file fault address) is = absurd (subst (IsMergeOfAll rank before has.first has.tables) is has.merge)
   unmerged_fault after (DesignsDiffer file line first other) is =
       let differs = subst (IsMergeOfAll rank before has.first has.tables) is has.merge in
       ((has.first ∷ has.tables, (has.first_holds, all_hold)), differs.0, differs.1)
@@ -236,6 +239,7 @@ table_fault rank before now after name effects later reached Memory is = tt
 table_fault rank before now after name effects later reached (NoDatabase file kind line) is =
     (subst (IsReached (ranked_files rank) before) (sym is.0) reached, subst (λ name. IsNoTable name before kind line) (sym is.0) (no_table_before before now name kind line effects.files is.1))
 table_fault rank before now after name effects later reached (DesignsDiffer file line first other) is = absurd is
+table_fault rank before now after name effects later reached (Point file fault address) is = absurd is
 
 pub first_rank_fault : (rank : RankValues) (before after : Outside) → OnlyReads before before → OnlyReads before after → (fault : CommandFault) → IsTableFault rank.first before after fault → IsRankFault rank before after fault
 first_rank_fault rank before after same effects fault is =
@@ -261,6 +265,7 @@ print_fault rank before now after has effects later Print is = (IsCounted-earlie
 print_fault rank before now after has effects later Memory is = tt
 print_fault rank before now after has effects later (NoDatabase file kind line) is = absurd is
 print_fault rank before now after has effects later (DesignsDiffer file line first other) is = absurd is
+print_fault rank before now after has effects later (Point file fault address) is = absurd is
 
 -- ---- good files
 
@@ -274,6 +279,7 @@ module _ (alloc : Global) (rank : RankValues) (before after : Outside) (good : I
   good_rank Print is = absurd (none is.0)
   good_rank Memory is = refl
   good_rank (NoDatabase file kind line) is = let at = good_at file.now is.0.earlier is.0.later is.0.files_are in absurd (table_there before file.now at.0 kind line at.1 is.1)
+  good_rank (Point file fault address) is = absurd is
   good_rank (DesignsDiffer file line first other) is =
       let at = good_at file.now is.1.earlier is.1.later is.1.files_are in
       let first_is = same_table alloc before rank.first good.0 is.2.first_table good.1 is.2.first_holds in

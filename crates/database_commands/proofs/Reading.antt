@@ -23,7 +23,7 @@ abbrev pub AreBytesOf : Outside → List ℕ → List ℕ → Type 0
 AreBytesOf outside name bytes = IfSome outside.files (λ files. IsSomeAnd (files name) (IsContent 2147483648 bytes))
 
 -- the text of a file of which these bytes were read
-text_at : (name bytes : List ℕ) (told : Option Files) → IfSome told (λ files. IsSomeAnd (files name) (IsContent 2147483648 bytes)) → (text : List ℕ) × IfSome told (λ files. files name ≡ Some text) × IsContent 2147483648 bytes text
+pub text_at : (name bytes : List ℕ) (told : Option Files) → IfSome told (λ files. IsSomeAnd (files name) (IsContent 2147483648 bytes)) → (text : List ℕ) × IfSome told (λ files. files name ≡ Some text) × IsContent 2147483648 bytes text
 text_at name bytes None read = let content : IsContent 2147483648 bytes bytes = record { whole = λ short. refl; longer = λ long. long } in (bytes, tt, content)
 text_at name bytes (Some files) read = go (files name) refl read
   where
@@ -31,7 +31,7 @@ text_at name bytes (Some files) read = go (files name) refl read
     go None none content = absurd content
     go (Some text) some content = (text, some, content)
 
-text_of_bytes : (before : Outside) (name bytes : List ℕ) → AreBytesOf before name bytes → length bytes ≤ 2147483648 → IsFile before name bytes
+pub text_of_bytes : (before : Outside) (name bytes : List ℕ) → AreBytesOf before name bytes → length bytes ≤ 2147483648 → IsFile before name bytes
 text_of_bytes before name bytes read short =
     let t = text_at name bytes before.files read in
     let same : bytes ≡ t.0 = elim (cases_lt 2147483648 (length t.0)) [ inl long ↦ absurd (omega (arith, t.2.longer long, short)) | inr within ↦ t.2.whole (omega (arith, within)) ] in

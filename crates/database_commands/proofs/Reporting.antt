@@ -5,29 +5,30 @@ use Rattle.command_line.specs.DatabaseWords.{ReportValues}
 use Rattle.cov_host.specs.Outside.{Appends, AppendsPrefix, Files as HostFiles, HasFile, Outside, SameFiles, Told}
 use Rattle.whole_files.specs.Effects.{CountsUp, HoldsFront, OnlyReads}
 use Rattle.whole_files.proofs.EffectLemmas.{IsCounted-earlier, Told-trans}
-use Rattle.database_commands.specs.Faults.{IsNoTable, IsTableFault}
-use Rattle.database_commands.specs.Files.{HoldsSome}
+use Rattle.database_commands.specs.Excluding.{HoldsSomeExclusion, IsExclusionFault, IsNoExclusion}
 use Rattle.database_commands.specs.Reporting.{GivesFront, GivesText, IsGiveFault, IsReportFault, LeavesFront}
 use Rattle.whole_files.specs.Refusals.{IsRefused}
 use Rattle.database_commands.specs.declared.fault.CommandFault.{CommandFault}
-use Rattle.database_commands.specs.declared.fault.CommandFault.TheVariants.{Files, Print, Memory, NoDatabase, DesignsDiffer}
+use Rattle.database_commands.specs.declared.fault.CommandFault.TheVariants.{Files, Print, Memory, NoDatabase, DesignsDiffer, Point}
 use Rattle.database_commands.proofs.Reading.{refused_before}
 
 -- a report was not given of a file that holds a table
-pub report_give_fault : (report : ReportValues) (before now after : Outside) → HoldsSome before report.file → OnlyReads before now → CountsUp now after → (fault : CommandFault) → IsGiveFault report.output now after fault → IsReportFault report before after fault
+pub report_give_fault : (report : ReportValues) (before now after : Outside) → HoldsSomeExclusion before report.file → OnlyReads before now → CountsUp now after → (fault : CommandFault) → IsGiveFault report.output now after fault → IsReportFault report before after fault
 report_give_fault report before now after holds effects later (Files call file) is = inr (is.0, is.1, refused_before before now after call file.now effects later is.2, holds)
 report_give_fault report before now after holds effects later Print is = (is.0, IsCounted-earlier before.faults now.faults after.faults effects.counts.faults later.faults is.1, holds)
 report_give_fault report before now after holds effects later Memory is = tt
 report_give_fault report before now after holds effects later (NoDatabase file kind line) is = absurd is
 report_give_fault report before now after holds effects later (DesignsDiffer file line first other) is = absurd is
+report_give_fault report before now after holds effects later (Point file fault address) is = absurd is
 
 -- the file of a report was not read
-pub report_table_fault : (report : ReportValues) (before after : Outside) (fault : CommandFault) → IsTableFault report.file before after fault → IsReportFault report before after fault
+pub report_table_fault : (report : ReportValues) (before after : Outside) (fault : CommandFault) → IsExclusionFault report.file before after fault → IsReportFault report before after fault
 report_table_fault report before after (Files call file) is = inl (is.1, is.0, subst (λ name. IsRefused call name before after) (sym is.0) is.2)
 report_table_fault report before after Print is = absurd is
 report_table_fault report before after Memory is = tt
-report_table_fault report before after (NoDatabase file kind line) is = (is.0, subst (λ name. IsNoTable name before kind line) (sym is.0) is.1)
+report_table_fault report before after (NoDatabase file kind line) is = (is.0, subst (λ name. IsNoExclusion name before kind line) (sym is.0) is.1)
 report_table_fault report before after (DesignsDiffer file line first other) is = absurd is
+report_table_fault report before after (Point file fault address) is = absurd is
 
 written_since : (name text : List ℕ) (before now after : Option HostFiles) → Told SameFiles before now → Told (HasFile name text) now after → Told (HasFile name text) before after
 written_since name text before now after same written =

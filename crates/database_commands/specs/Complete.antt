@@ -6,6 +6,8 @@ use Rattle.coverage_db.specs.Merge.{SameDesign}
 use Rattle.coverage_db.specs.Table.{IsTable}
 use Rattle.coverage_db.specs.Text.{IsTextOf}
 use Rattle.coverage_db.specs.declared.db.Db.{Db}
+use Rattle.db_tools.specs.Excluded.{Exclusion}
+use Rattle.database_commands.specs.Excluding.{HasExclusion}
 
 -- the files of the host are known, and this one has a text of this table, which is no longer than 2,147,483,648 bytes
 pub record HasTable (before : Outside) (name : List ℕ) (db : Db) : Type 0 where
@@ -24,9 +26,9 @@ HaveTablesOf before first (name ∷ names) = ((db : Db) × HasTable before name 
 abbrev pub IsGoodMerge : MergeValues → Outside → Type 0
 IsGoodMerge merge before = (first : Db) × HasTable before merge.first first × HaveTablesOf before first merge.others
 
--- the file of a report has a table
+-- the file of a report has a table with its excluded points
 abbrev pub IsGoodReport : ReportValues → Outside → Type 0
-IsGoodReport report before = (db : Db) × HasTable before report.file db
+IsGoodReport report before = (e : Exclusion) × HasExclusion before report.file e
 
 -- no fault of the host was counted
 abbrev pub NoFaults : Outside → Outside → Type 0

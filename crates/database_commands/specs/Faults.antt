@@ -15,7 +15,7 @@ use Rattle.whole_files.specs.declared.call.Call.TheVariants.{OpenRead, Read}
 use Rattle.database_commands.specs.Files.{AreOfOneDesign, HoldTables, HoldsTable, IsFile}
 use Rattle.database_commands.specs.Merging.{IsMergeOf}
 use Rattle.database_commands.specs.declared.fault.CommandFault.{CommandFault}
-use Rattle.database_commands.specs.declared.fault.CommandFault.TheVariants.{Files, Print, Memory, NoDatabase, DesignsDiffer}
+use Rattle.database_commands.specs.declared.fault.CommandFault.TheVariants.{Files, Print, Memory, NoDatabase, DesignsDiffer, Point}
 
 -- the call reads a file
 abbrev pub IsReading : Call → Type 0
@@ -98,6 +98,7 @@ IsMergeFault merge before after (Files call file) = IsMergeCall merge before aft
 IsMergeFault merge before after Print = ⊥
 IsMergeFault merge before after Memory = Unit {0}
 IsMergeFault merge before after (NoDatabase file kind line) = ComesTo (inputs_of merge) before file.now × IsNoTable file.now before kind line
+IsMergeFault merge before after (Point file fault address) = ⊥
 IsMergeFault merge before after (DesignsDiffer file line first other) = ComesTo (inputs_of merge) before file.now × IsOtherDesign merge.first file.now before line first other
 
 -- a fault that comes before anything is written or printed
@@ -107,3 +108,4 @@ IsEarly Print = ⊥
 IsEarly Memory = ⊥
 IsEarly (NoDatabase file kind line) = Unit {0}
 IsEarly (DesignsDiffer file line first other) = Unit {0}
+IsEarly (Point file fault address) = Unit {0}

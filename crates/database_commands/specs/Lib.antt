@@ -1,5 +1,6 @@
 pub mod Files
 pub mod Faults
+pub mod Excluding
 pub mod Merging
 pub mod Complete
 pub mod Reporting

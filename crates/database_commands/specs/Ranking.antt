@@ -14,7 +14,7 @@ use Rattle.database_commands.specs.Complete.{HasTable, HaveTablesOf}
 use Rattle.database_commands.specs.Faults.{ComesTo, IsJoinFault, IsNoTable, IsOtherDesign, IsReading}
 use Rattle.database_commands.specs.Files.{HoldTables}
 use Rattle.database_commands.specs.declared.fault.CommandFault.{CommandFault}
-use Rattle.database_commands.specs.declared.fault.CommandFault.TheVariants.{Files, Print, Memory, NoDatabase, DesignsDiffer}
+use Rattle.database_commands.specs.declared.fault.CommandFault.TheVariants.{Files, Print, Memory, NoDatabase, DesignsDiffer, Point}
 
 -- the files of a ranking in the order of the words
 abbrev pub ranked_files : RankValues → List (List ℕ)
@@ -72,6 +72,7 @@ IsRankFault rank before after (Files call file) = IsReading call × IsReached (r
 IsRankFault rank before after Print = IsCounted before.faults after.faults × HasRanking rank before
 IsRankFault rank before after Memory = Unit {0}
 IsRankFault rank before after (NoDatabase file kind line) = IsReached (ranked_files rank) before file.now × IsNoTable file.now before kind line
+IsRankFault rank before after (Point file fault address) = ⊥
 IsRankFault rank before after (DesignsDiffer file line first other) =
     AllHold (ranked_files rank) before × ComesTo (ranked_files rank) before file.now × IsOtherDesign rank.first file.now before line first other
 

@@ -6,7 +6,6 @@ use Rattle.cov_report.specs.declared.options.Letters.{Letters}
 use Rattle.cov_report.specs.declared.options.Level.{Level}
 use Rattle.cov_report.specs.declared.options.Level.TheVariants as level
 use Rattle.cov_report.specs.declared.options.Options.{Options}
-use Rattle.coverage_db.specs.declared.db.Db.{Db}
 use Rattle.command_line.specs.DatabaseWords.{ReportValues}
 use Rattle.command_line.specs.declared.report_level.ReportLevel.{ReportLevel}
 use Rattle.command_line.specs.declared.report_level.ReportLevel.TheVariants.{Summary, Detailed, Verbose}
@@ -14,10 +13,12 @@ use Rattle.command_line.specs.declared.report_metrics.ReportMetrics.{ReportMetri
 use Rattle.whole_files.specs.Effects.{HoldsFront}
 use Rattle.whole_files.specs.Refusals.{IsRefused}
 use Rattle.whole_files.specs.declared.call.Call.{Call}
-use Rattle.database_commands.specs.Faults.{IsNoTable, IsReading, IsWriting}
-use Rattle.database_commands.specs.Files.{HoldsSome, HoldsTable, KeepsOthers}
+use Rattle.db_tools.specs.Excluded.{Exclusion, visible}
+use Rattle.database_commands.specs.Excluding.{HoldsExclusion, HoldsSomeExclusion, IsNoExclusion}
+use Rattle.database_commands.specs.Faults.{IsReading, IsWriting}
+use Rattle.database_commands.specs.Files.{KeepsOthers}
 use Rattle.database_commands.specs.declared.fault.CommandFault.{CommandFault}
-use Rattle.database_commands.specs.declared.fault.CommandFault.TheVariants.{Files, Print, Memory, NoDatabase, DesignsDiffer}
+use Rattle.database_commands.specs.declared.fault.CommandFault.TheVariants.{Files, Print, Memory, NoDatabase, DesignsDiffer, Point}
 
 abbrev pub level_of : ReportLevel → Level
 level_of Summary = level.Summary
@@ -59,29 +60,30 @@ abbrev pub PrintsIfUnnamed : Option (List ℕ) → Outside → Outside → Type 
 PrintsIfUnnamed None before after = Unit {0}
 PrintsIfUnnamed (Some name) before after = after.printed ≡ before.printed
 
--- the text is the report of the table that the file holds
+-- the text is the report of the table that the file holds, without its excluded points
 abbrev pub IsReportedText : ReportValues → Outside → List ℕ → Type 0
-IsReportedText report before text = (table : Db) × HoldsTable before report.file table × (text ≡ report_text table (options_of report))
+IsReportedText report before text = (e : Exclusion) × HoldsExclusion before report.file e × (text ≡ report_text (visible e) (options_of report))
 
--- the file holds a table, and its report was written or printed
+-- the file holds a table, and the report of its points that are not excluded was written or printed
 pub record IsReportedIn (report : ReportValues) (before after : Outside) : Type 0 where
-  pub table : Db
-  pub holds : HoldsTable before report.file table
-  pub gives : GivesText report.output (report_text table (options_of report)) before after
+  pub e : Exclusion
+  pub holds : HoldsExclusion before report.file e
+  pub gives : GivesText report.output (report_text (visible e) (options_of report)) before after
 
 -- a call on the file of a report, or on its output where the file holds a table, gave nothing
 abbrev pub IsReportCall : ReportValues → Outside → Outside → Call → List ℕ → Type 0
 IsReportCall report before after call file =
     (IsReading call × (file ≡ report.file) × IsRefused call file before after)
-    ⊎ (IsWriting call × (report.output ≡ Some file) × IsRefused call file before after × HoldsSome before report.file)
+    ⊎ (IsWriting call × (report.output ≡ Some file) × IsRefused call file before after × HoldsSomeExclusion before report.file)
 
 -- why a report was not given
 abbrev pub IsReportFault : ReportValues → Outside → Outside → CommandFault → Type 0
 IsReportFault report before after (Files call file) = IsReportCall report before after call file.now
-IsReportFault report before after Print = (report.output ≡ None) × IsCounted before.faults after.faults × HoldsSome before report.file
+IsReportFault report before after Print = (report.output ≡ None) × IsCounted before.faults after.faults × HoldsSomeExclusion before report.file
 IsReportFault report before after Memory = Unit {0}
-IsReportFault report before after (NoDatabase file kind line) = (file.now ≡ report.file) × IsNoTable file.now before kind line
+IsReportFault report before after (NoDatabase file kind line) = (file.now ≡ report.file) × IsNoExclusion file.now before kind line
 IsReportFault report before after (DesignsDiffer file line first other) = ⊥
+IsReportFault report before after (Point file fault address) = ⊥
 
 -- the text of a report was neither written nor printed
 abbrev pub IsGiveFault : Option (List ℕ) → Outside → Outside → CommandFault → Type 0

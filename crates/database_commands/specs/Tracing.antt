@@ -10,7 +10,7 @@ use Rattle.database_commands.specs.Complete.{HasTable}
 use Rattle.database_commands.specs.Faults.{IsNoTable, IsReading, IsWriting}
 use Rattle.database_commands.specs.Files.{HoldsSome, HoldsTable}
 use Rattle.database_commands.specs.declared.fault.CommandFault.{CommandFault}
-use Rattle.database_commands.specs.declared.fault.CommandFault.TheVariants.{Files, Print, Memory, NoDatabase, DesignsDiffer}
+use Rattle.database_commands.specs.declared.fault.CommandFault.TheVariants.{Files, Print, Memory, NoDatabase, DesignsDiffer, Point}
 
 -- the text is the tracefile of the table that the file holds
 abbrev pub IsTracedText : LcovValues → Outside → List ℕ → Type 0
@@ -35,6 +35,7 @@ IsLcovFault lcov before after Print = ⊥
 IsLcovFault lcov before after Memory = Unit {0}
 IsLcovFault lcov before after (NoDatabase file kind line) = (file.now ≡ lcov.file) × IsNoTable file.now before kind line
 IsLcovFault lcov before after (DesignsDiffer file line first other) = ⊥
+IsLcovFault lcov before after (Point file fault address) = ⊥
 
 -- the file has a table
 abbrev pub IsGoodLcov : LcovValues → Outside → Type 0

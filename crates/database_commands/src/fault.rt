@@ -1,5 +1,6 @@
 use cov_host::Name;
 use coverage_db::DbKind;
+use db_tools::ToolFault;
 use thiserror::Error;
 use whole_files::Call;
 
@@ -41,5 +42,15 @@ pub enum CommandFault<'a> {
         first: Name,
         /// The line of this file.
         other: Name,
+    },
+    /// A point is not one that the command can change.
+    #[error("a point was refused")]
+    Point {
+        /// The name of the file.
+        file: &'a str,
+        /// Why it is refused.
+        fault: ToolFault,
+        /// The address.
+        address: &'a str,
     },
 }

@@ -8,17 +8,22 @@
 //! merge, in whatever order.
 #![tactic(auto)]
 
+mod change;
+mod exclusion;
 mod fault;
 mod files;
 mod laws;
 mod lcov;
 mod merge;
+mod points;
 mod rank;
 mod report;
 
+pub use change::Change;
 pub use fault::CommandFault;
 pub use laws::any_order;
 pub use lcov::run_lcov;
 pub use merge::run_merge;
+pub use points::{run_exclude, run_restore};
 pub use rank::run_rank;
 pub use report::run_report;

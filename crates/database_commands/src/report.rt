@@ -1,19 +1,23 @@
-ghost use Rattle.std.specs.Prelude.{◌≡◌, IfErr, OnErr, OnOk, option_copied};
+ghost use Rattle.std.specs.Prelude.{◌≡◌, IfErr, IfOk, OnErr, OnOk, option_copied};
 ghost use Rattle.command_line.specs.DatabaseWords.{report_values};
 ghost use Rattle.cov_host.specs.Outside.{KeepsFiles, Told};
+ghost use Rattle.cov_report.specs.Report.{report_text};
+ghost use Rattle.db_tools.specs.Excluded.{visible};
 ghost use Rattle.whole_files.specs.Effects.{CountsUp};
 ghost use Rattle.database_commands.specs.Complete.{IsGoodReport, NoFaults};
 ghost use Rattle.database_commands.specs.Faults.{IsEarly};
 ghost use Rattle.database_commands.specs.Reporting.{GivesFront, GivesText, IsGiveFault, IsReportFault, IsReportedIn, IsReportedText, KeepsUnlessNamed, LeavesFront, PrintsIfUnnamed, options_of};
 
 use crate::CommandFault;
-use crate::files::{print, read_table, write};
+use crate::exclusion::read_exclusion;
+use crate::files::{print, write};
 use command_line::{ReportLevel, ReportWords};
 use cov_host::{Host, NoMemory, Text};
 use cov_report::{Letters, Level, Options, report};
+use db_tools::{Excluded, visible};
 use std::alloc::Global;
 
-/// Shows the database of a `report` command: the report is written to the output, or printed where none is named.
+/// Shows the database of a `report` command, with its excluded points left out: the report is written to the output, or printed where none is named.
 /// The output is opened when the file was read and its report is made.
 pub fn run_report<'a, H: Host>(
     alloc: Global,
@@ -31,11 +35,19 @@ pub fn run_report<'a, H: Host>(
     ensures warned { (H.outside host.new).warned ≡ (H.outside host.old).warned }
     ensures counts { CountsUp (H.outside host.old) (H.outside host.new) }
 {
-    let table = read_table(alloc, host, words.file)?;
-    match report(alloc, &table, &options_of(words)) {
+    let excluded = read_exclusion(alloc, host, words.file)?;
+    match visible_report(alloc, &excluded, &options_of(words)) {
         Ok(text) => give(host, words.output, &text),
         Err(NoMemory) => Err(CommandFault::Memory),
     }
+}
+
+/// The report of the points that are not excluded.
+fn visible_report(alloc: Global, excluded: &Excluded, options: &Options) -> Result<Text, NoMemory>
+    ensures { IfOk result (λ text. text ≡ report_text (visible excluded.now) options.now) }
+{
+    let table = visible(alloc, excluded)?;
+    report(alloc, &table, options)
 }
 
 /// What the words ask for.

@@ -1,4 +1,4 @@
-//! Tests of the databases: `coverage_db`, `cov_report`, `command_line` and `database_commands`.
+//! Tests of the databases: `coverage_db`, `db_tools`, `cov_report`, `command_line` and `database_commands`.
 #![tactic(auto)]
 
 #[cfg(test)]
@@ -7,6 +7,8 @@ mod commands;
 mod database_cases;
 #[cfg(test)]
 mod databases;
+#[cfg(test)]
+mod exclusions;
 #[cfg(test)]
 mod rankings;
 #[cfg(test)]

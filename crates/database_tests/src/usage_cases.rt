@@ -102,6 +102,29 @@ pub(crate) const RANK_FAULTS: &[(&[&str], &str)] = &[
     (&["rank", "a.db", "", "b.db"], "unknown word "),
 ];
 
+/// Words of `exclude` and `restore` that are no command, with the first fault.
+#[rattlefmt::skip]
+pub(crate) const POINT_FAULTS: &[(&[&str], &str)] = &[
+    (&["exclude"], "missing -o"),
+    (&["restore"], "missing -o"),
+    (&["exclude", "-point", "t ff clk - 10", "t1.db"], "missing -o"),
+    (&["exclude", "-o", "e.db", "t1.db"], "missing -point"),
+    (&["restore", "t1.db", "-o", "e.db"], "missing -point"),
+    (&["exclude", "-o", "e.db", "-point", "t ff clk - 10"], "missing file"),
+    (&["restore", "-point", "t ff clk - 10", "-o", "e.db"], "missing file"),
+    (&["exclude", "-o", "e.db"], "missing -point"),
+    (&["exclude", "-point"], "-point needs a value"),
+    (&["restore", "-o", "e.db", "-point", "x", "-point"], "-point needs a value"),
+    (&["exclude", "-o", "e.db", "-point", "", "t1.db"], "bad value "),
+    (&["restore", "-o", "e.db", "-point", "a\tb", "t1.db"], "bad value a\tb"),
+    (&["exclude", "-o", "e.db", "-o", "f.db"], "-o given twice"),
+    (&["restore", "-point", "x", "t1.db", "t2.db"], "unknown word t2.db"),
+    (&["exclude", "-point", "x", "-d", "v"], "unknown word -d"),
+    (&["report", "-point", "t ff clk - 10", "t1.db"], "unknown word -point"),
+    (&["merge", "a.db", "-point", "x", "b.db"], "unknown word -point"),
+    (&["lcov", "-point", "x", "-o", "e.info", "a.db"], "unknown word -point"),
+];
+
 /// Words of state machines and of the late habit that are no command, and the fault that is reported.
 #[rattlefmt::skip]
 pub(crate) const MACHINE_FAULTS: &[(&[&str], &str)] = &[

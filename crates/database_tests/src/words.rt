@@ -1,8 +1,9 @@
 //! Each fault as it is reported, and a whole command of each kind.
-use crate::usage_cases::{FAULTS, LCOV_FAULTS, MACHINE_FAULTS, RANK_FAULTS};
+use crate::usage_cases::{FAULTS, LCOV_FAULTS, MACHINE_FAULTS, POINT_FAULTS, RANK_FAULTS};
 use command_line::{
-    Command, GivenDefine, GivenDefines, LcovWords, MergeWords, RankWords, ReportLevel,
-    ReportMetrics, ReportWords, ScoreWords, SourceFiles, UsageFault, read_command,
+    Command, GivenDefine, GivenDefines, LcovWords, MergeWords, PointAddresses, PointWords,
+    RankWords, ReportLevel, ReportMetrics, ReportWords, ScoreWords, SourceFiles, UsageFault,
+    read_command,
 };
 use cov_host::{NoMemory, Words};
 use std::alloc::Global;
@@ -71,6 +72,13 @@ fn the_first_fault_of_rank_is_reported(rt: HostRuntime) {
     }
 }
 
+#[test]
+fn the_first_fault_of_exclude_and_restore_is_reported(rt: HostRuntime) {
+    for (texts, text) in POINT_FAULTS {
+        assert!(rt; is_refused(rt.alloc(), texts, text), "{text}");
+    }
+}
+
 /// The values of a `score` command.
 fn score_of(words: &Words) -> Option<ScoreWords<'_>> {
     match read_command(words) {
@@ -107,6 +115,22 @@ fn lcov_of(words: &Words) -> Option<LcovWords<'_>> {
 pub(crate) fn rank_of(words: &Words) -> Option<RankWords<'_>> {
     match read_command(words) {
         Ok(Command::Rank(rank)) => Some(rank),
+        _ => None,
+    }
+}
+
+/// The values of an `exclude` command.
+fn exclude_of(words: &Words) -> Option<PointWords<'_>> {
+    match read_command(words) {
+        Ok(Command::Exclude(points)) => Some(points),
+        _ => None,
+    }
+}
+
+/// The values of a `restore` command.
+fn restore_of(words: &Words) -> Option<PointWords<'_>> {
+    match read_command(words) {
+        Ok(Command::Restore(points)) => Some(points),
         _ => None,
     }
 }
@@ -307,4 +331,60 @@ fn the_words_of_a_ranking(rt: HostRuntime) {
             Err(_) => false,
         }
     );
+}
+
+/// Words that take out or restore two points, whose addresses look like options, in several orders.
+#[rattlefmt::skip]
+const EXCLUDED: &[&[&str]] = &[
+    &["exclude", "-o", "e.db", "-point", "t ff clk - 10", "-point", "-o", "t1.db"],
+    &["exclude", "-point", "t ff clk - 10", "t1.db", "-point", "-o", "-o", "e.db"],
+    &["exclude", "t1.db", "-o", "e.db", "-point", "t ff clk - 10", "-point", "-o"],
+];
+
+#[rattlefmt::skip]
+const RESTORED: &[&[&str]] = &[
+    &["restore", "-o", "e.db", "-point", "t ff clk - 10", "-point", "-o", "t1.db"],
+    &["restore", "t1.db", "-point", "t ff clk - 10", "-o", "e.db", "-point", "-o"],
+];
+
+/// Whether these are the addresses, in order.
+fn are_addresses(addresses: PointAddresses<'_>, texts: &[&str]) -> bool {
+    let mut addresses = addresses;
+    for text in texts {
+        if addresses.next_address() != Some(*text) {
+            return false;
+        }
+    }
+    addresses.next_address().is_none()
+}
+
+/// Whether these are the values of those words.
+fn names_two(points: PointWords<'_>) -> bool {
+    points.output == "e.db"
+        && points.file == "t1.db"
+        && are_addresses(points.addresses, &["t ff clk - 10", "-o"])
+}
+
+fn excludes_two(alloc: Global, texts: &[&str]) -> bool {
+    match words_of(alloc, texts) {
+        Ok(words) => exclude_of(&words).is_some_and(names_two) && restore_of(&words).is_none(),
+        Err(_) => false,
+    }
+}
+
+fn restores_two(alloc: Global, texts: &[&str]) -> bool {
+    match words_of(alloc, texts) {
+        Ok(words) => restore_of(&words).is_some_and(names_two) && exclude_of(&words).is_none(),
+        Err(_) => false,
+    }
+}
+
+#[test]
+fn addresses_keep_their_order(rt: HostRuntime) {
+    for texts in EXCLUDED {
+        assert!(rt; excludes_two(rt.alloc(), texts));
+    }
+    for texts in RESTORED {
+        assert!(rt; restores_two(rt.alloc(), texts));
+    }
 }

@@ -1,5 +1,5 @@
 -- A step that is closed: the replay has followed each dump that goes on up to it, or no run shows what was read.
-use Rattle.std.proofs.Common.{◌≡◌, ◌↔◌, ℕ, ◌<◌, Bool, true, false, is_some, List, [], ◌∷◌, ◌++◌, length, Option, None, Some, Ok, Err, refl, sym, ap, subst, ◌∙◌, inl, inr, arith}
+use Rattle.std.proofs.Common.{◌≡◌, ◌↔◌, ℕ, suc, ◌<◌, ◌≤◌, ◌-◌, Bool, true, false, is_some, List, [], ◌∷◌, ◌++◌, length, Option, None, Some, Ok, Err, refl, sym, ap, subst, ◌∙◌, inl, inr, arith}
 use Rattle.std.specs.Prelude.{IfErr, IsErrAnd, IsFalse, OnOk, Result}
 use Rattle.std.proofs.lemmas.Bool.{false≢true}
 use Rattle.four_state.specs.Vector.{Vector}
@@ -12,17 +12,19 @@ use Rattle.design_model.specs.RoundLaws.{read_by}
 use Rattle.design_model.specs.Shows.{BoundDump, IsFirst, IsShown}
 use Rattle.four_state.specs.declared.bit.Bit.{Bit}
 use Rattle.design_model.specs.declared.design.Design.{Design}
+use Rattle.design_model.specs.View.{design_view}
 use Rattle.event_machine.specs.Habit.{Habit}
+use Rattle.hidden_times.proofs.Listed.{listed_law}
 use Rattle.vcd_reader.specs.Times.{Rises, last_time}
 use Rattle.vcd_reader.specs.declared.entry.Entry.{Entry}
 use Rattle.vcd_reader.specs.declared.entry.Entry.TheVariants.{Time}
 use Rattle.vcd_reader.specs.declared.vars.Var.{Var}
-use Rattle.code_values.specs.Values.{IsFirstMissing}
+use Rattle.code_values.specs.Values.{IsFirstMissing, value_of}
 use Rattle.entry_laws.specs.Entries.{AreEntries}
 use Rattle.replay_core.specs.Faults.{IsContradiction, IsRefuted}
 use Rattle.replay_core.specs.Fits.{HaveValues, signal_of}
-use Rattle.replay_core.specs.Followed.{AreGivenAt, IsNextStep}
-use Rattle.replay_core.specs.Made.{IsDumpFor}
+use Rattle.replay_core.specs.Followed.{AreGivenAt, AreHidden, IsNextStep}
+use Rattle.replay_core.specs.Made.{IsDumpFor, Made}
 use Rattle.replay_core.specs.Parts.{IsNew, IsReady, IsStarted, given_of, made_of}
 use Rattle.replay_core.specs.declared.fault.Phase.{Phase}
 use Rattle.replay_core.specs.declared.fault.Phase.TheVariants.{New, Started}
@@ -32,16 +34,18 @@ use Rattle.replay_core.specs.declared.replay.Replay.{Replay}
 use Rattle.signal_binding.specs.Binding.{codes_of}
 use Rattle.replay_core.specs.wake_laws.Laws.{habit_of}
 use Rattle.shown_dumps.specs.Laws.{dump_with}
+use Rattle.shown_dumps.specs.Ongoing.{AreGiven}
+use Rattle.shown_dumps.specs.Rounds.{ByLastRounds}
 use Rattle.shown_dumps.specs.Said.{EndsIn, times_in}
 use Rattle.shown_dumps.specs.Shown.{code_at}
-use Rattle.shown_dumps.proofs.Times.{first_time, next_time}
+use Rattle.shown_dumps.proofs.Times.{first_time, next_time, rest_times}
 use Rattle.shown_dumps.proofs.Values.{rises_front}
 use Rattle.dump_replay.specs.Faults.{IsContradicted, IsReplayFault}
 use Rattle.replay_core.specs.Followed.{HasFollowed as HasFollowedDump}
 use Rattle.dump_replay.specs.Followed.{Follows, HasFollowed, IsReplayOf}
 use Rattle.dump_replay.specs.declared.replay.DumpReplay.{DumpReplay}
 use Rattle.dump_replay.proofs.Facts.{given_at, no_baseline, of_dump}
-use Rattle.dump_replay.proofs.More.{last_cases}
+use Rattle.dump_replay.proofs.More.{last_cases, last_front}
 
 -- no step is closed yet, or the first one is
 new_or_started : (p : Phase) → p ≡ New → p ≡ Started → ⊥
@@ -64,8 +68,8 @@ module _ (x : DumpReplay) (habit : Habit) (design : Design) (points : Points) (v
   pub dump_for : IsDumpFor (made_of x.replay) the_dump
   dump_for = record {
     fits =
-        let fits = of_dump design vars instance entries more next rises (made_of x.replay).design f.of.design_is f.of.bindable in
-        record { rising = fits.rising; signals = fits.signals; inputs = fits.inputs; stays = fits.stays };
+        let fits = of_dump design vars instance entries more next rises (made_of x.replay).design f.of.design_is in
+        record { rising = fits.rising; signals = fits.signals; stays = fits.stays };
     bound = λ s. ap (λ cs. is_some (code_at cs s)) (sym f.of.codes);
     rounds = by_last;
   }
@@ -86,7 +90,7 @@ module _ (x : DumpReplay) (habit : Habit) (design : Design) (points : Points) (v
   pub is_first : IsNew x.replay → IsFirst the_dump last × IsShown the_dump last
   is_first new = first_time codes entries more next rises last (only_time new)
 
-  -- else there is a time before it, up to which the replay has followed the dump
+  -- else there is a time before it, and the replay has followed the dump up to the moment before it
   pub earlier_time : (IsNew x.replay → ⊥) → (before : ℕ) × EndsIn (times_in entries) before last
   earlier_time begun =
       elim (last_cases entries last is_last) [
@@ -94,13 +98,13 @@ module _ (x : DumpReplay) (habit : Habit) (design : Design) (points : Points) (v
         | inr ends ↦ ends
       ]
 
-  pub followed_before : (begun : IsNew x.replay → ⊥) → HasFollowedDump x.replay the_dump (earlier_time begun).0
+  pub followed_before : (begun : IsNew x.replay → ⊥) → HasFollowedDump x.replay the_dump (last - 1)
   followed_before begun = f.taken.follows (earlier_time begun).0 last (earlier_time begun).1 (Time next ∷ more) rises rounds by_last
 
-  pub next_step : (begun : IsNew x.replay → ⊥) → IsNextStep the_dump (earlier_time begun).0 last
+  pub next_step : (begun : IsNew x.replay → ⊥) → IsNextStep the_dump (last - 1) last
   next_step begun =
       let n = next_time codes entries more next rises (earlier_time begun).0 last (earlier_time begun).1 in
-      record { later = n.rises; listed = n.listed; window = n.in_window; between = n.none }
+      record { next = omega (arith, n.rises); kind = (listed_law the_dump last).1 n.listed; window = n.in_window }
 
   -- then each bound signal has a value
   pub have_values : (IsNew x.replay → ⊥) → HaveValues (made_of x.replay).codes (given_of x.replay)
@@ -128,7 +132,7 @@ module _ (x : DumpReplay) (y : Replay) (time : ℕ) where
       → HasFollowed x habit design points vars instance entries → Follows y (dump_with (codes_of design vars instance) entries next more) time
   later_closed begun made closed habit design points vars instance entries more next are rises is_last f rounds by_last_y =
       let by_last = subst (λ m. AreLastRounds m.design (read_by (dump_with (codes_of design vars instance) entries next more) rounds)) made by_last_y in
-      closed (read_by (dump_with (codes_of design vars instance) entries next more) rounds) (earlier_time x habit design points vars instance entries more time next are rises is_last f rounds by_last begun).0
+      closed (read_by (dump_with (codes_of design vars instance) entries next more) rounds) (time - 1)
       (followed_before x habit design points vars instance entries more time next are rises is_last f rounds by_last begun) (next_step x habit design points vars instance entries more time next are rises is_last f rounds by_last begun)
       (given_there x habit design points vars instance entries more time next are rises is_last f rounds by_last (have_values x habit design points vars instance entries more time next are rises is_last f rounds by_last begun))
 
@@ -145,14 +149,15 @@ some_rounds : (x : DumpReplay) (dump : BoundDump) → IsReady x.replay → (roun
 some_rounds x dump ready = last_rounds_law (made_of x.replay).design ready.replayable.lawful dump
 
 -- what a contradiction of the dump of the entries says of them
-refuted_entries : (x : DumpReplay) (habit : Habit) (design : Design) (points : Points) (vars : List Var) (instance : List ℕ) (entries : List Entry) (time next s end : ℕ) (dumped : Vector) (computed : Partly) (rounds : ℕ → ℕ) → last_time None entries ≡ Some time
+pub refuted_entries : (x : DumpReplay) (habit : Habit) (design : Design) (points : Points) (vars : List Var) (instance : List ℕ) (entries : List Entry) (last time next s end : ℕ) (dumped : Vector) (computed : Partly) (rounds : ℕ → ℕ) → last_time None entries ≡ Some last
+    → last ≤ time → time < next
     → IsReplayOf x habit design points vars instance → s < length (made_of x.replay).design.signals → (end ≡ time) × IsRefuted (made_of x.replay).design (habit_of (made_of x.replay).habit) (read_by (dump_with (codes_of design vars instance) entries next []) rounds) time s dumped computed.bits
     → IsContradicted habit design vars instance (entries ++ Time next ∷ []) s end dumped computed.bits
-refuted_entries x habit design points vars instance entries time next s end dumped computed rounds is_last of listed (same, by) =
+refuted_entries x habit design points vars instance entries last time next s end dumped computed rounds is_last from before of listed (same, by) =
     let is = plain (made_of x.replay).design (habit_of (made_of x.replay).habit) (dump_with (codes_of design vars instance) entries next []) rounds time s dumped computed.bits by in
     subst (λ t. IsContradicted habit design vars instance (entries ++ Time next ∷ []) s t dumped computed.bits) (sym same) (record {
-      bindable = of.bindable;
-      ends = record { front = entries; next = next; are = refl; last = is_last };
+      there = of.there;
+      ends = record { front = entries; next = next; are = refl; last = last; is_last = is_last; from = from; before = before };
       listed = subst (λ d. s < length d.signals) of.design_is listed;
       refuted = subst (λ d. IsRefuted d habit (dump_with (codes_of design vars instance) entries next []) time s dumped computed.bits) of.design_is (subst (λ h. IsRefuted (made_of x.replay).design h (dump_with (codes_of design vars instance) entries next []) time s dumped computed.bits) of.habit_is is);
     })
@@ -174,11 +179,11 @@ module _ {T : Type 0} (x : DumpReplay) (result : Result T ReplayFault) (time : �
       go (Ok value) is c n = tt
       go (Err (fault.NoBaseline s)) is c n = λ habit design points vars instance entries next are rises is_last f.
           let some = some_rounds x (dump_with (codes_of design vars instance) entries next []) f.of.ready in let rounds = some.0 in let by_last = some.1 in
-          no_baseline design vars instance entries time next (made_of x.replay).codes (given_of x.replay) s f.of.codes f.of.bindable (only_time x habit design points vars instance entries [] time next are rises is_last f rounds by_last new) f.taken.given (missing s new is)
+          no_baseline design vars instance entries time next (made_of x.replay).codes (given_of x.replay) s f.of.codes f.of.there (only_time x habit design points vars instance entries [] time next are rises is_last f rounds by_last new) f.taken.given (missing s new is)
       go (Err (fault.Contradiction s end dumped computed)) is c n = λ habit design points vars instance entries next are rises is_last f.
           let some = some_rounds x (dump_with (codes_of design vars instance) entries next []) f.of.ready in let rounds = some.0 in let by_last = some.1 in
           let first = is_first x habit design points vars instance entries [] time next are rises is_last f rounds by_last new in
-          refuted_entries x habit design points vars instance entries time next s end dumped computed rounds is_last f.of n
+          refuted_entries x habit design points vars instance entries time time next s end dumped computed rounds is_last (omega arith) (later_next entries [] time next rises is_last) f.of n
           (c (read_by (dump_with (codes_of design vars instance) entries next []) rounds) new (dump_for x habit design points vars instance entries [] time next are rises is_last f rounds by_last) first.0 first.1
           (given_there x habit design points vars instance entries [] time next are rises is_last f rounds by_last (valued s end dumped computed new is)))
 
@@ -197,21 +202,105 @@ module _ {T : Type 0} (x : DumpReplay) (result : Result T ReplayFault) (time : �
       go (Ok value) c n = tt
       go (Err (fault.NoBaseline s)) c n = λ habit design points vars instance entries next are rises is_last f.
           let some = some_rounds x (dump_with (codes_of design vars instance) entries next []) f.of.ready in let rounds = some.0 in let by_last = some.1 in
-          absurd (c (read_by (dump_with (codes_of design vars instance) entries next []) rounds) (earlier_time x habit design points vars instance entries [] time next are rises is_last f rounds by_last begun).0
+          absurd (c (read_by (dump_with (codes_of design vars instance) entries next []) rounds) (time - 1)
           (followed_before x habit design points vars instance entries [] time next are rises is_last f rounds by_last begun) (next_step x habit design points vars instance entries [] time next are rises is_last f rounds by_last begun)
           (given_there x habit design points vars instance entries [] time next are rises is_last f rounds by_last (have_values x habit design points vars instance entries [] time next are rises is_last f rounds by_last begun)))
       go (Err (fault.Contradiction s end dumped computed)) c n = λ habit design points vars instance entries next are rises is_last f.
           let some = some_rounds x (dump_with (codes_of design vars instance) entries next []) f.of.ready in let rounds = some.0 in let by_last = some.1 in
-          refuted_entries x habit design points vars instance entries time next s end dumped computed rounds is_last f.of n
-          (c (read_by (dump_with (codes_of design vars instance) entries next []) rounds) (earlier_time x habit design points vars instance entries [] time next are rises is_last f rounds by_last begun).0
+          refuted_entries x habit design points vars instance entries time time next s end dumped computed rounds is_last (omega arith) (later_next entries [] time next rises is_last) f.of n
+          (c (read_by (dump_with (codes_of design vars instance) entries next []) rounds) (time - 1)
           (followed_before x habit design points vars instance entries [] time next are rises is_last f rounds by_last begun) (next_step x habit design points vars instance entries [] time next are rises is_last f rounds by_last begun)
           (given_there x habit design points vars instance entries [] time next are rises is_last f rounds by_last (have_values x habit design points vars instance entries [] time next are rises is_last f rounds by_last begun)))
-
--- ---- what a result says once it is known
 
 pub ok_map : {T : Type 0} (r : Result T ReplayFault) (A B : Type 0) → (A → B) → OnOk r A → OnOk r B
 ok_map (Ok value) A B step a = step a
 ok_map (Err fault) A B step a = tt
+
+err_map : {T : Type 0} (r : Result T ReplayFault) (A B : ReplayFault → Type 0) → ((g : ReplayFault) → A g → B g) → IfErr r A → IfErr r B
+err_map (Ok value) A B step a = tt
+err_map (Err g) A B step a = step g a
+
+-- ---- the times between the last one, whose step is closed, and the next
+
+module _ (x z : DumpReplay) (last next : ℕ) (made : made_of z.replay ≡ made_of x.replay) (given : given_of z.replay ≡ given_of x.replay) (started : IsStarted z.replay) (ready : IsReady z.replay)
+    (habit : Habit) (design : Design) (points : Points) (vars : List Var) (instance : List ℕ) (entries more : List Entry) (are : AreEntries vars entries) (rises : Rises None (entries ++ Time next ∷ more))
+    (is_last : last_time None entries ≡ Some last) (f : HasFollowed x habit design points vars instance entries) where
+  abbrev said : BoundDump
+  said = dump_with (codes_of design vars instance) entries next more
+
+  -- none of them is listed, and each is of the window
+  pub between_times : AreHidden said last next
+  between_times =
+      let front = last_front entries last is_last in
+      let n = rest_times (codes_of design vars instance) entries more next rises front.0 last front.1 in
+      record { later = later_next entries more last next rises is_last; window = n.0; unlisted = n.1 }
+
+  -- and the values are those of the last one
+  pub given_after : AreGivenAt z.replay said last
+  given_after =
+      let codes : (made_of z.replay).codes ≡ codes_of design vars instance = ap (λ (m : Made). m.codes) made ∙ f.of.codes in
+      let is : (made_of z.replay).design ≡ design_view design = ap (λ (m : Made). m.design) made ∙ f.of.design_is in
+      let values : AreGiven (codes_of design vars instance) (value_of (given_of z.replay)) entries = subst (λ g. AreGiven (codes_of design vars instance) (value_of g) entries) (sym given) f.taken.given in
+      given_at design vars instance entries more next rises (made_of z.replay).design (made_of z.replay).codes (given_of z.replay) last is codes (later_next entries more last next rises is_last) are is_last values (ready.begun started)
+
+-- they are the same however the steps are judged
+hidden_read : (dump : BoundDump) (rounds : ℕ → ℕ) (last next : ℕ) → AreHidden dump last next → AreHidden (read_by dump rounds) last next
+hidden_read dump rounds last next hidden = record { later = hidden.later; window = hidden.window; unlisted = hidden.unlisted }
+
+-- the answers of the call for them
+module _ {T : Type 0} (x y : Replay) (last next : ℕ) (made : made_of y ≡ made_of x) (r : Result T ReplayFault) where
+  pub rest_follows : OnOk r ((dump : BoundDump) → HasFollowedDump x dump last → AreHidden dump last next → AreGivenAt x dump last → HasFollowedDump y dump (next - 1))
+      → OnOk r ((dump : BoundDump) → Follows x dump last → AreHidden dump last next → AreGivenAt x dump last → Follows y dump (next - 1))
+  rest_follows closed = ok_map r _ _ (λ each dump follows hidden given rounds by_last.
+      each (read_by dump rounds) (follows rounds (subst (λ (m : Made). AreLastRounds m.design (read_by dump rounds)) made by_last)) (hidden_read dump rounds last next hidden) given) closed
+
+  pub rest_refutes : IfErr r (λ g. (dump : BoundDump) → HasFollowedDump x dump last → AreHidden dump last next → AreGivenAt x dump last → (suc last < next) × IsContradiction (made_of x).design (habit_of (made_of x).habit) dump (suc last) g)
+      → IfErr r (λ g. (dump : BoundDump) → Follows x dump last → AreHidden dump last next → AreGivenAt x dump last
+      → ByLastRounds (made_of x).design dump (λ b. (suc last < next) × IsContradiction (made_of x).design (habit_of (made_of x).habit) b (suc last) g))
+  rest_refutes refutes = err_map r _ _ (λ g each dump follows hidden given rounds by_last. each (read_by dump rounds) (follows rounds by_last) (hidden_read dump rounds last next hidden) given) refutes
+
+pub rest_starts : {T : Type 0} (r : Result T ReplayFault) (x y : Replay) → IsStarted x → OnOk r (IsStarted x → IsStarted y) → OnOk r (IsStarted y)
+rest_starts r x y started is = ok_map r _ _ (λ from. from started) is
+
+pub begun_not_new : (x : Replay) → IsStarted x → IsNew x → ⊥
+begun_not_new x started new = new_or_started x.phase new started
+
+-- what follows after those times
+pub rest_closed : (x z : DumpReplay) (y : Replay) (last next : ℕ) → made_of z.replay ≡ made_of x.replay → given_of z.replay ≡ given_of x.replay → IsStarted z.replay → IsReady z.replay
+    → ((dump : BoundDump) → Follows z.replay dump last → AreHidden dump last next → AreGivenAt z.replay dump last → Follows y dump (next - 1))
+    → (habit : Habit) (design : Design) (points : Points) (vars : List Var) (instance : List ℕ) (entries more : List Entry) → AreEntries vars entries → Rises None (entries ++ Time next ∷ more) → last_time None entries ≡ Some last
+    → HasFollowed x habit design points vars instance entries → Follows z.replay (dump_with (codes_of design vars instance) entries next more) last
+    → Follows y (dump_with (codes_of design vars instance) entries next more) (next - 1)
+rest_closed x z y last next made given started ready closed habit design points vars instance entries more are rises is_last f follows =
+    closed (dump_with (codes_of design vars instance) entries next more) follows
+    (between_times x z last next made given started ready habit design points vars instance entries more are rises is_last f)
+    (given_after x z last next made given started ready habit design points vars instance entries more are rises is_last f)
+
+-- a contradiction at one of them
+pub rest_fault : (x z : DumpReplay) (last next : ℕ) → made_of z.replay ≡ made_of x.replay → given_of z.replay ≡ given_of x.replay → IsStarted z.replay → IsReady z.replay → (g : ReplayFault)
+    → ((dump : BoundDump) → Follows z.replay dump last → AreHidden dump last next → AreGivenAt z.replay dump last
+    → ByLastRounds (made_of z.replay).design dump (λ b. (suc last < next) × IsContradiction (made_of z.replay).design (habit_of (made_of z.replay).habit) b (suc last) g))
+    → signal_of g < length (made_of z.replay).design.signals
+    → (habit : Habit) (design : Design) (points : Points) (vars : List Var) (instance : List ℕ) (entries : List Entry) → AreEntries vars entries → Rises None (entries ++ Time next ∷ []) → last_time None entries ≡ Some last
+    → HasFollowed x habit design points vars instance entries → Follows z.replay (dump_with (codes_of design vars instance) entries next []) last
+    → IsReplayFault habit design vars instance (entries ++ Time next ∷ []) g
+rest_fault x z last next made given started ready (fault.NoBaseline s) refutes named habit design points vars instance entries are rises is_last f follows =
+    let dump = dump_with (codes_of design vars instance) entries next [] in
+    let some = some_rounds x dump f.of.ready in
+    absurd (refutes dump follows (between_times x z last next made given started ready habit design points vars instance entries [] are rises is_last f)
+    (given_after x z last next made given started ready habit design points vars instance entries [] are rises is_last f) some.0
+    (subst (λ (m : Made). AreLastRounds m.design (read_by dump some.0)) (sym made) some.1)).1
+rest_fault x z last next made given started ready (fault.Contradiction s end dumped computed) refutes named habit design points vars instance entries are rises is_last f follows =
+    let dump = dump_with (codes_of design vars instance) entries next [] in
+    let some = some_rounds x dump f.of.ready in
+    let is = refutes dump follows (between_times x z last next made given started ready habit design points vars instance entries [] are rises is_last f)
+    (given_after x z last next made given started ready habit design points vars instance entries [] are rises is_last f) some.0
+    (subst (λ (m : Made). AreLastRounds m.design (read_by dump some.0)) (sym made) some.1) in
+    refuted_entries x habit design points vars instance entries last (suc last) next s end dumped computed some.0 is_last (omega arith) is.0 f.of
+    (subst (λ (m : Made). s < length m.design.signals) made named)
+    (subst (λ (m : Made). (end ≡ suc last) × IsRefuted m.design (habit_of m.habit) (read_by dump some.0) (suc last) s dumped computed.bits) made is.1)
+
+-- ---- what a result says once it is known
 
 pub ok_both : {T : Type 0} (r : Result T ReplayFault) (A B C : Type 0) → (A → B → C) → OnOk r A → OnOk r B → OnOk r C
 ok_both (Ok value) A B C step a b = step a b

@@ -1,9 +1,7 @@
 -- The end of a dump.
-use Rattle.std.proofs.Common.{◌≡◌, ℕ, ◌<◌, ◌≤◌, List, [], ◌∷◌, ◌++◌, length, refl, subst, arith}
-use Rattle.design_model.specs.Design.{In}
-use Rattle.design_model.specs.Shows.{AreRising, IsShownOf, IsWindowOf, last_time as last_of}
+use Rattle.std.proofs.Common.{◌≡◌, ℕ, ◌<◌, ◌≤◌, ◌-◌, List, [], ◌∷◌, ◌++◌, length, refl, subst, arith}
+use Rattle.design_model.specs.Shows.{IsShownOf, IsWindowOf, last_time as last_of}
 use Rattle.shown_dumps.specs.Said.{EndsIn}
-use Rattle.shown_dumps.proofs.Times.{none_between}
 
 last_is : (t : ℕ) (front : List ℕ) (last : ℕ) → last_of t (front ++ last ∷ []) ≡ last
 last_is t [] last = refl
@@ -17,10 +15,9 @@ before_last (x ∷ front) before last u window = omega (arith, window.1, last_tw
     last_two t [] = refl
     last_two t (y ∷ ys) = last_two y ys
 
--- no time of the window is listed after the last but one
-pub last_step : (times : List ℕ) (before last : ℕ) → AreRising times → EndsIn times before last → (u : ℕ) → before < u → IsWindowOf times u → In u times → ⊥
-last_step times before last up ends u after window listed =
-    none_between ends.earlier before last [] (subst AreRising ends.are up) u after (before_last ends.earlier before last u (subst (λ ts. IsWindowOf ts u) ends.are window)) (subst (In u) ends.are listed)
+-- no time of the window is after the moment before the last time
+pub last_step : (times : List ℕ) (before last : ℕ) → EndsIn times before last → (u : ℕ) → IsWindowOf times u → u ≤ last - 1
+last_step times before last ends u window = omega (arith, before_last ends.earlier before last u (subst (λ ts. IsWindowOf ts u) ends.are window))
 
 -- fewer than two times have no window, and show none
 pub no_window : (times : List ℕ) → length times ≤ 1 → (u : ℕ) → IsWindowOf times u → ⊥

@@ -5,7 +5,7 @@ use Rattle.std.proofs.lemmas.Bool.{false≢true}
 use Rattle.std.proofs.lemmas.List.{length-map}
 use Rattle.four_state.specs.Vector.{Vector}
 use Rattle.design_model.specs.Design.{Design as Tree}
-use Rattle.design_model.specs.Shows.{IsDumpOf}
+use Rattle.hidden_times.specs.Hidden.{IsAnyDumpOf}
 use Rattle.design_model.specs.View.{design_view}
 use Rattle.design_model.specs.declared.design.Design.{Design}
 use Rattle.vcd_reader.specs.Dump.{DumpStep, steps_of}
@@ -15,7 +15,7 @@ use Rattle.vcd_reader.specs.declared.entry.Entry.TheVariants.{Time}
 use Rattle.vcd_reader.specs.declared.vars.Var.{Var}
 use Rattle.code_values.specs.Values.{IsFirstMissing, lacks_code, lacks_value, value_of}
 use Rattle.entry_laws.specs.Entries.{AreEntries}
-use Rattle.signal_binding.specs.Binding.{IsBindable, codes_of}
+use Rattle.signal_binding.specs.Binding.{HasInstance, codes_of}
 use Rattle.shown_dumps.specs.Bound.{HasFirstValue, HasNoBaseline, first_value}
 use Rattle.shown_dumps.specs.Laws.{dump_with}
 use Rattle.shown_dumps.specs.Ongoing.{AreGiven, bits_of}
@@ -45,8 +45,8 @@ module _ (design : Design) (vars : List Var) (instance : List ℕ) (entries more
   codes = codes_of design vars instance
 
   -- it is a dump of the design
-  pub of_dump : (d : Tree) → d ≡ design_view design → IsBindable design vars instance → IsDumpOf d (dump_with codes entries next more)
-  of_dump d is bindable = subst (λ e. IsDumpOf e (dump_with codes entries next more)) (sym is) (is_dump design vars instance (entries ++ Time next ∷ more) bindable rises)
+  pub of_dump : (d : Tree) → d ≡ design_view design → IsAnyDumpOf d (dump_with codes entries next more)
+  of_dump d is = subst (λ e. IsAnyDumpOf e (dump_with codes entries next more)) (sym is) (is_dump design vars instance (entries ++ Time next ∷ more) rises)
 
   -- the values that were given last are its values
   pub given_at : (d : Tree) (own : List (Option ℕ)) (values : List (Option Vector)) (last : ℕ) → d ≡ design_view design → own ≡ codes → last < next → AreEntries vars entries → last_time None entries ≡ Some last → AreGiven codes (value_of values) entries
@@ -72,9 +72,9 @@ some_bits (Some v) (Some w) e n = refl
 steps_long : (entries : List Entry) → length (steps_of entries) ≡ length (times_in entries)
 steps_long entries = sym (length-map (steps_of entries) (λ (step : DumpStep). step.time)) ∙ ap length (times_are entries)
 
-pub no_baseline : (design : Design) (vars : List Var) (instance : List ℕ) (entries : List Entry) (last next : ℕ) (own : List (Option ℕ)) (values : List (Option Vector)) (s : ℕ) → own ≡ codes_of design vars instance → IsBindable design vars instance
+pub no_baseline : (design : Design) (vars : List Var) (instance : List ℕ) (entries : List Entry) (last next : ℕ) (own : List (Option ℕ)) (values : List (Option Vector)) (s : ℕ) → own ≡ codes_of design vars instance → HasInstance vars instance
     → times_in entries ≡ last ∷ [] → AreGiven (codes_of design vars instance) (value_of values) entries → IsFirstMissing values own s → HasNoBaseline design vars instance (entries ++ Time next ∷ []) s
-no_baseline design vars instance entries last next own values s same bindable one given is = go (code_at codes s) refl missing.missing
+no_baseline design vars instance entries last next own values s same there one given is = go (code_at codes s) refl missing.missing
   where
     codes : List (Option ℕ)
     codes = codes_of design vars instance
@@ -98,7 +98,7 @@ no_baseline design vars instance entries last next own values s same bindable on
     go : (o : Option ℕ) → code_at (codes_of design vars instance) s ≡ o → lacks_code values o ≡ true → HasNoBaseline design vars instance (entries ++ Time next ∷ []) s
     go None f e = absurd (false≢true e)
     go (Some code) f e = record {
-      bindable = bindable;
+      there = there;
       second = two;
       listed = omega (arith, missing.listed, codes_long design vars instance);
       earlier = λ k l. earlier k (missing.earlier k l);

@@ -1,9 +1,8 @@
 -- The marks at the end of a dump.
-use Rattle.std.proofs.Common.{◌≡◌, ℕ, ◌≤◌, List, [], ◌++◌, length, Option, None, Some, refl, sym, ap, subst, inl, inr, arith, append-nil}
+use Rattle.std.proofs.Common.{◌≡◌, ℕ, ◌≤◌, ◌-◌, List, [], ◌++◌, length, Option, None, Some, refl, sym, ap, subst, inl, inr, arith, append-nil}
 use Rattle.cover_marks.specs.Marks.{AreMarksOf}
 use Rattle.cover_marks.specs.declared.marks.Marks.{Marks}
 use Rattle.cover_points.specs.declared.listing.Points.{Points}
-use Rattle.design_model.specs.Design.{In}
 use Rattle.design_model.specs.MayMove.{AreLastRounds}
 use Rattle.design_model.specs.RoundLaws.{read_by}
 use Rattle.design_model.specs.Shows.{BoundDump, IsShownOf, IsWindowOf}
@@ -23,7 +22,7 @@ use Rattle.vcd_reader.specs.declared.entry.Entry.{Entry}
 use Rattle.vcd_reader.specs.declared.vars.Var.{Var}
 use Rattle.shown_dumps.specs.Said.{EndsIn, times_in}
 use Rattle.shown_dumps.specs.Shown.{dump_of}
-use Rattle.shown_dumps.proofs.Times.{times_are, times_rise}
+use Rattle.shown_dumps.proofs.Times.{times_are}
 use Rattle.dump_replay.specs.Followed.{AreFinalMarks, Follows, HasFollowed}
 use Rattle.dump_replay.specs.declared.replay.DumpReplay.{DumpReplay}
 use Rattle.dump_replay.proofs.Ends.{last_step, never_shown, no_window}
@@ -53,11 +52,11 @@ module _ (x : DumpReplay) (marks : Marks) (of : AreMarksOf (made_of x.replay).po
   last_closed : (before last : ℕ) → EndsIn (times_in entries) before last → AreFinalMarks (design_view design) habit the_dump points marks
   last_closed before last ends =
       let all : entries ++ [] ≡ entries = append-nil entries in
-      let follows : HasFollowedDump x.replay the_dump before =
-      subst (λ es. Follows x.replay (dump_of (codes_of design vars instance) (steps_of es)) before) all (f.taken.follows before last ends [] (subst (Rises None) (sym all) rises)) rounds (subst (λ d. AreLastRounds d the_dump) (sym f.of.design_is) by_last) in
-      let is_last : IsLastStep the_dump before =
-      λ u after window listed. last_step (times_in entries) before last (times_rise entries rises) ends u after (subst (λ ts. IsWindowOf ts u) (times_are entries) window) (subst (In u) (times_are entries) listed) in
-      let final : AreFinal (made_of x.replay) the_dump marks = followed the_dump before follows is_last in
+      let follows : HasFollowedDump x.replay the_dump (last - 1) =
+      subst (λ es. Follows x.replay (dump_of (codes_of design vars instance) (steps_of es)) (last - 1)) all (f.taken.follows before last ends [] (subst (Rises None) (sym all) rises)) rounds (subst (λ d. AreLastRounds d the_dump) (sym f.of.design_is) by_last) in
+      let is_last : IsLastStep the_dump (last - 1) =
+      λ u window. last_step (times_in entries) before last ends u (subst (λ ts. IsWindowOf ts u) (times_are entries) window) in
+      let final : AreFinal (made_of x.replay) the_dump marks = followed the_dump (last - 1) follows is_last in
       let here : AreFinalMarks (made_of x.replay).design (habit_of (made_of x.replay).habit) the_dump (made_of x.replay).points marks =
       record { of = final.points; scored = record { replay = final.replay; verdicts = final.verdicts; sound = final.sound; reasoned = final.reasoned }; forced = final.forced } in
       let there = subst (λ h. AreFinalMarks (made_of x.replay).design h the_dump (made_of x.replay).points marks) f.of.habit_is here in

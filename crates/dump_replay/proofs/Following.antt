@@ -1,5 +1,5 @@
 -- What was followed, with one entry more.
-use Rattle.std.proofs.Common.{◌≡◌, ℕ, ◌==◌, true, false, List, [], ◌∷◌, ◌++◌, length, None, Some, refl, sym, ap, subst, ◌∙◌, arith, append_assoc, append-nil}
+use Rattle.std.proofs.Common.{◌≡◌, ℕ, ◌-◌, ◌==◌, true, false, List, [], ◌∷◌, ◌++◌, length, None, Some, refl, sym, ap, subst, ◌∙◌, arith, append_assoc, append-nil}
 use Rattle.std.specs.Prelude.{slice_set}
 use Rattle.std.specs.List.{All}
 use Rattle.std.proofs.lemmas.Bool.{false≢true}
@@ -48,7 +48,7 @@ pub of_again : (x y : DumpReplay) (habit : Habit) (design : Design) (points : Po
     → IsReplayOf x habit design points vars instance → IsReplayOf y habit design points vars instance
 of_again x y habit design points vars instance ready made long wanted of = record {
   ready = ready;
-  bindable = of.bindable;
+  there = of.there;
   design_is = ap (λ (m : Made). m.design) made ∙ of.design_is;
   habit_is = ap (λ (m : Made). habit_of m.habit) made ∙ of.habit_is;
   points_are = ap (λ (m : Made). m.points) made ∙ of.points_are;
@@ -111,11 +111,11 @@ first_opened x y time none replay wanted first last habit design points vars ins
       taken = subst (λ r. HasTaken (Follows r) (IsNew r) (codes_of design vars instance) (value_of (given_of r)) (entries ++ Time time ∷ [])) (sym replay) taken;
     }
 
--- a later time, once the step of the last one is closed
+-- a later time, once the steps of the last one and of the times between are closed
 pub later_opened : (x z y : DumpReplay) (last time : ℕ) → IsReady z.replay → IsStarted z.replay → made_of z.replay ≡ made_of x.replay → given_of z.replay ≡ given_of x.replay → z.wanted ≡ x.wanted → z.first ≡ x.first → x.last ≡ Some last
     → y.replay ≡ z.replay → y.wanted ≡ z.wanted → y.first ≡ z.first → y.last ≡ Some time
-    → ((habit : Habit) (design : Design) (points : Points) (vars : List Var) (instance : List ℕ) (entries more : List Entry) (next : ℕ) → AreEntries vars entries → Rises None (entries ++ Time next ∷ more) → last_time None entries ≡ Some last
-    → HasFollowed x habit design points vars instance entries → Follows z.replay (dump_with (codes_of design vars instance) entries next more) last)
+    → ((habit : Habit) (design : Design) (points : Points) (vars : List Var) (instance : List ℕ) (entries more : List Entry) → AreEntries vars entries → Rises None (entries ++ Time time ∷ more) → last_time None entries ≡ Some last
+    → HasFollowed x habit design points vars instance entries → Follows z.replay (dump_with (codes_of design vars instance) entries time more) (time - 1))
     → (habit : Habit) (design : Design) (points : Points) (vars : List Var) (instance : List ℕ) (entries : List Entry) → AreEntries vars entries → HasFollowed x habit design points vars instance entries
     → HasFollowed y habit design points vars instance (entries ++ Time time ∷ [])
 later_opened x z y last time ready started made given wanted began had replay kept begins opened closed habit design points vars instance entries are f =
@@ -123,7 +123,7 @@ later_opened x z y last time ready started made given wanted began had replay ke
     let codes = codes_of design vars instance in
     let have : HaveValues codes (given_of x.replay) = subst (λ g. HaveValues codes g) given (subst (λ cs. HaveValues cs (given_of z.replay)) (ap (λ (m : Made). m.codes) made ∙ f.of.codes) (ready.begun started)) in
     let taken = taken_time (Follows x.replay) (Follows z.replay) (IsNew x.replay) (IsNew z.replay) codes (value_of (given_of x.replay)) entries last time is_last (some_values codes (given_of x.replay) have)
-    (λ more rises. closed habit design points vars instance entries more time are rises is_last f) f.taken in
+    (λ more rises. closed habit design points vars instance entries more are rises is_last f) f.taken in
     record {
       of = of_again x y habit design points vars instance (subst IsReady (sym replay) ready) (ap made_of replay ∙ made) (ap (λ r. length (given_of r)) replay ∙ ap length given) (kept ∙ wanted) f.of;
       first = begins ∙ began ∙ f.first ∙ sym (first_kept (times_in entries) time (some_times entries last is_last)) ∙ ap first_of (sym (times_time entries time));

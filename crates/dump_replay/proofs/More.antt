@@ -112,6 +112,13 @@ last_cases entries last e = go (ends_with None entries last e)
     go (inl none) = absurd (let no_time : None ≡ Some last = none.1 in cc)
     go (inr some) = by_front some.0 some.1 (snoc_view some.0)
 
+-- the last time stands at the end
+pub last_front : (entries : List Entry) (last : ℕ) → last_time None entries ≡ Some last → (front : List ℕ) × (times_in entries ≡ front ++ last ∷ [])
+last_front entries last e = elim (last_cases entries last e) [
+  | inl one ↦ ([], one)
+  | inr (before, ends) ↦ (ends.earlier ++ before ∷ [], ends.are ∙ sym (append_assoc ends.earlier (before ∷ []) (last ∷ [])))
+]
+
 -- where there is no last time there is no time
 pub no_times : (entries : List Entry) → last_time None entries ≡ None → times_in entries ≡ []
 no_times [] e = refl

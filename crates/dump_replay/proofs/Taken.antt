@@ -1,5 +1,5 @@
 -- What was taken, with one entry more.
-use Rattle.std.proofs.Common.{◌≡◌, ◌⊎◌, ℕ, ◌≤◌, ◌+◌, ◌==◌, true, false, List, [], ◌∷◌, ◌++◌, length, Option, None, Some, is_some, refl, ap, ◌∙◌, inl, inr, arith, length-append}
+use Rattle.std.proofs.Common.{◌≡◌, ◌⊎◌, ℕ, ◌≤◌, ◌+◌, ◌-◌, ◌==◌, true, false, List, [], ◌∷◌, ◌++◌, length, Option, None, Some, is_some, refl, ap, ◌∙◌, inl, inr, arith, length-append}
 use Rattle.std.specs.Prelude.{IfSome, IsSome}
 use Rattle.four_state.specs.Vector.{Vector}
 use Rattle.design_model.specs.Shows.{BoundDump}
@@ -18,7 +18,7 @@ use Rattle.shown_dumps.proofs.Ongoing.{change_more, first_stays, time_more}
 use Rattle.shown_dumps.proofs.Values.{first_until}
 
 holds_map : (P Q : BoundDump → ℕ → Type 0) (codes : List (Option ℕ)) (entries : List Entry) → ((dump : BoundDump) (t : ℕ) → P dump t → Q dump t) → HoldsOn P codes entries → HoldsOn Q codes entries
-holds_map P Q codes entries step holds before last ends more rises = step _ before (holds before last ends more rises)
+holds_map P Q codes entries step holds before last ends more rises = step _ (last - 1) (holds before last ends more rises)
 
 -- first values stay
 based_more : (codes : List (Option ℕ)) (entries more : List Entry) → 2 ≤ length (times_in entries) → ((s : ℕ) → HasFirstValue codes (steps_of entries) s) → (s : ℕ) → HasFirstValue codes (steps_of (entries ++ more)) s
@@ -64,14 +64,14 @@ taken_first P New codes values entries time none t =
 
 -- a later time, at which what holds of the last one before it is known
 pub taken_time : (P Q : BoundDump → ℕ → Type 0) (Old New : Type 0) (codes : List (Option ℕ)) (values : ℕ → Option Vector) (entries : List Entry) (last next : ℕ) → last_time None entries ≡ Some last
-    → ((s code : ℕ) → code_at codes s ≡ Some code → IsSome (values code)) → ((more : List Entry) → Rises None (entries ++ Time next ∷ more) → Q (dump_with codes entries next more) last) → HasTaken P Old codes values entries
+    → ((s code : ℕ) → code_at codes s ≡ Some code → IsSome (values code)) → ((more : List Entry) → Rises None (entries ++ Time next ∷ more) → Q (dump_with codes entries next more) (next - 1)) → HasTaken P Old codes values entries
     → HasTaken Q New codes values (entries ++ Time next ∷ [])
 taken_time P Q Old New codes values entries last next is_last some holds t =
     record {
       given = given_time codes values entries next t.given;
       new = λ l. absurd (two l (last_cases entries last is_last));
       based = λ l s. first s (last_cases entries last is_last);
-      follows = time_more Q codes entries last next is_last holds;
+      follows = time_more Q codes entries next holds;
     }
   where
     long : length (times_in (entries ++ Time next ∷ [])) ≡ length (times_in entries) + 1

@@ -1,5 +1,5 @@
 -- Why a dump is refused by the replay.
-use Rattle.std.specs.Prelude.{◌≡◌, ◌<◌, ◌++◌, ◌∷◌, [], ℕ, List, length, Option, None, Some}
+use Rattle.std.specs.Prelude.{◌≡◌, ◌<◌, ◌≤◌, ◌++◌, ◌∷◌, [], ℕ, List, length, Option, None, Some}
 use Rattle.design_model.specs.View.{design_view}
 use Rattle.design_model.specs.declared.design.Design.{Design}
 use Rattle.event_machine.specs.Habit.{Habit}
@@ -13,20 +13,23 @@ use Rattle.vcd_reader.specs.declared.vars.Var.{Var}
 use Rattle.replay_core.specs.Faults.{IsRefuted}
 use Rattle.replay_core.specs.declared.fault.ReplayFault.{ReplayFault}
 use Rattle.replay_core.specs.declared.fault.ReplayFault.TheVariants.{Contradiction, NoBaseline}
-use Rattle.signal_binding.specs.Binding.{IsBindable, codes_of}
+use Rattle.signal_binding.specs.Binding.{HasInstance, codes_of}
 use Rattle.shown_dumps.specs.Bound.{HasNoBaseline}
 use Rattle.shown_dumps.specs.Shown.{dump_of}
 
--- the entries end with a time, and this is the one before it
+-- the entries end with a time, and this is the one before it, or one between the two
 pub record EndsStep (entries : List Entry) (time : ℕ) : Type 0 where
   pub front : List Entry
   pub next : ℕ
   pub are : entries ≡ front ++ Time next ∷ []
-  pub last : last_time None front ≡ Some time
+  pub last : ℕ
+  pub is_last : last_time None front ≡ Some last
+  pub from : last ≤ time
+  pub before : time < next
 
--- the entries end with a time, and no run of the design shows their dump up to the time before it; what the dump says of the signal then differs in a sure bit from what was made of it
+-- the entries end with a time, and no run of the design shows their dump up to this time, which is the one before it or between the two; what the dump says of the signal then differs in a sure bit from what was made of it
 pub record IsContradicted (habit : Habit) (design : Design) (vars : List Var) (instance : List ℕ) (entries : List Entry) (s time : ℕ) (dumped : Vector) (computed : List (Option Bit)) : Type 0 where
-  pub bindable : IsBindable design vars instance
+  pub there : HasInstance vars instance
   pub ends : EndsStep entries time
   pub listed : s < length design.signals
   pub refuted : IsRefuted (design_view design) habit (dump_of (codes_of design vars instance) (steps_of entries)) time s dumped computed

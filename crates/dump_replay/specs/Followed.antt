@@ -17,7 +17,7 @@ use Rattle.replay_core.specs.Followed.{HasFollowed as HasFollowedDump}
 use Rattle.replay_core.specs.Parts.{IsNew, IsReady, given_of, made_of}
 use Rattle.replay_core.specs.declared.replay.Replay.{Replay}
 use Rattle.replay_core.specs.wake_laws.Laws.{habit_of}
-use Rattle.signal_binding.specs.Binding.{IsBindable, codes_of}
+use Rattle.signal_binding.specs.Binding.{HasInstance, codes_of}
 use Rattle.code_values.specs.Values.{value_of}
 use Rattle.score_tables.specs.Scored.{AreScored}
 use Rattle.dump_replay.specs.Taken.{HasTaken}
@@ -30,7 +30,7 @@ use Rattle.dump_replay.specs.declared.replay.DumpReplay.{DumpReplay}
 -- the replay is one of this design, whose inputs move by this habit, and of its points, of which the instance is the top in a dump with these variables
 pub record IsReplayOf (x : DumpReplay) (habit : Habit) (design : Design) (points : Points) (vars : List Var) (instance : List ℕ) : Type 0 where
   pub ready : IsReady x.replay
-  pub bindable : IsBindable design vars instance
+  pub there : HasInstance vars instance
   pub design_is : (made_of x.replay).design ≡ design_view design
   pub habit_is : habit_of (made_of x.replay).habit ≡ habit
   pub points_are : (made_of x.replay).points ≡ points

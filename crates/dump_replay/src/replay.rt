@@ -1,13 +1,16 @@
-ghost use Rattle.std.specs.Prelude.{◌≡◌, ◌++◌, ◌∷◌, ◌<◌, ◌≤◌, [], ℕ, List, None, Some, All, IfErr, IfOk, OnOk, length};
+ghost use Rattle.std.specs.Prelude.{◌≡◌, ◌++◌, ◌∷◌, ◌-◌, ◌<◌, ◌≤◌, [], ℕ, List, None, Some, All, IfErr, IfOk, OnOk, length, suc};
 ghost use Rattle.cover_points.specs.Listed.{points_of};
 ghost use Rattle.cover_points.specs.Visits.{ArePlaced};
 ghost use Rattle.cover_points.specs.declared.listing.Points.{Points as ThePoints};
 ghost use Rattle.design_model.specs.Design.{signal_at};
+ghost use Rattle.design_model.specs.Shows.{BoundDump};
 ghost use Rattle.design_model.specs.View.{design_view};
 ghost use Rattle.design_model.specs.declared.design.Design.{Design as TheDesign};
 ghost use Rattle.entry_laws.specs.Entries.{AreEntries};
 ghost use Rattle.event_machine.specs.Habit.{Habit as TheHabit};
-ghost use Rattle.replay_core.specs.Fits.{IsReplayable};
+ghost use Rattle.replay_core.specs.Faults.{IsContradiction};
+ghost use Rattle.replay_core.specs.Fits.{IsReplayable, signal_of};
+ghost use Rattle.replay_core.specs.Followed.{AreGivenAt, AreHidden};
 ghost use Rattle.replay_core.specs.Parts.{IsReady, IsStarted, given_of, made_of};
 ghost use Rattle.replay_core.specs.wake_laws.Laws.{habit_of};
 ghost use Rattle.shown_dumps.specs.Laws.{dump_with};
@@ -142,7 +145,7 @@ impl<'a> DumpReplay<'a> {
         }
     }
 
-    /// Takes a time after this one, of which the step is closed.
+    /// Takes a time after this one, of which the step is closed, and with it those of the times between them.
     fn open_later(&mut self, last: u64, time: u64) -> Result<(), ReplayFault>
         requires ready { IsReady self.old.replay }
         requires last { self.old.last ≡ Some last }
@@ -156,6 +159,7 @@ impl<'a> DumpReplay<'a> {
             → IsReplayFault habit design vars instance (entries ++ entry.Time time ∷ []) fault) }
     {
         self.close::<Brand>(last, Blank::new(1))?;
+        self.rest::<Brand>(last, time, Blank::new(1))?;
         self.last = Some(time);
         Ok(())
     }
@@ -224,5 +228,28 @@ impl<'a> DumpReplay<'a> {
         } else {
             self.replay.start(time, &mut steps)
         }
+    }
+
+    /// Closes the steps of the times between this one, of which the step is closed, and the next one, whose runs nobody counts.
+    fn rest<L: Ledger>(&mut self, last: u64, time: u64, blank: Blank) -> Result<(), ReplayFault>
+        requires ready { IsReady self.old.replay }
+        requires started { IsStarted self.old.replay }
+        requires name { blank.name ≡ L.name }
+        requires parts { blank.parts ≡ L.parts }
+        requires some { 0 < blank.parts }
+        ensures ready { IsReady self.new.replay }
+        ensures made { made_of self.new.replay ≡ made_of self.old.replay }
+        ensures given { given_of self.new.replay ≡ given_of self.old.replay }
+        ensures wanted { self.new.wanted ≡ self.old.wanted }
+        ensures first { self.new.first ≡ self.old.first }
+        ensures last { self.new.last ≡ self.old.last }
+        ensures started { OnOk result (IsStarted self.new.replay) }
+        ensures followed { OnOk result ((dump : BoundDump) → Follows self.old.replay dump last → AreHidden dump last time → AreGivenAt self.old.replay dump last → Follows self.new.replay dump (time - 1)) }
+        ensures fault { IfErr result (λ fault. (dump : BoundDump) → Follows self.old.replay dump last → AreHidden dump last time → AreGivenAt self.old.replay dump last
+            → ByLastRounds (made_of self.old.replay).design dump (λ b. (suc last < time) × IsContradiction (made_of self.old.replay).design (habit_of (made_of self.old.replay).habit) b (suc last) fault)) }
+        ensures named { IfErr result (λ fault. signal_of fault < length (made_of self.old.replay).design.signals) }
+    {
+        let mut steps = Steps::<L>::new(blank);
+        self.replay.rest(last, time, &mut steps)
     }
 }

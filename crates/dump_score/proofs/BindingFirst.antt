@@ -1,13 +1,12 @@
 -- A design that is not bound to a header is refused for that alone.
-use Rattle.std.proofs.Common.{◌≡◌, ◌≢◌, ◌∙◌, ℕ, is_some, Option, None, List, refl, sym, ap, subst, inl, inr}
+use Rattle.std.proofs.Common.{◌≢◌, ◌∙◌, ℕ, List, refl, sym, subst, inl, inr}
 use Rattle.std.proofs.lemmas.Bool.{false≢true}
-use Rattle.std.specs.Prelude.{IsSome}
 use Rattle.design_model.specs.declared.design.Design.{Design}
 use Rattle.event_machine.specs.Habit.{Habit}
 use Rattle.dump_replay.specs.Faults.{IsReplayFault}
 use Rattle.dump_replay.specs.replay_core.declared.fault.ReplayFault.{ReplayFault}
 use Rattle.dump_replay.specs.replay_core.declared.fault.ReplayFault.TheVariants.{Contradiction, NoBaseline}
-use Rattle.signal_binding.specs.Binding.{IsBindFault, IsBindable}
+use Rattle.signal_binding.specs.Binding.{HasInstance, IsBindFault}
 use Rattle.signal_binding.specs.declared.fault.BindFault.{BindFault}
 use Rattle.signal_binding.specs.declared.fault.BindFault.TheVariants as bind_fault
 use Rattle.vcd_reader.proofs.OneHeader.{one_header}
@@ -20,22 +19,18 @@ use Rattle.vcd_reader.specs.declared.vars.Var.{Var}
 use Rattle.dump_score.specs.Faults.{IsTextFault}
 use Rattle.dump_score.specs.declared.fault.ScoreFault.TheVariants as score_fault
 
-some_or_none : (o : Option ℕ) → IsSome o → o ≡ None → ⊥
-some_or_none o some none = false≢true (sym (ap is_some none) ∙ some)
-
 -- a design that is not bound is not bound
-unbound : (design : Design) (vars : List Var) (instance : List ℕ) (f : BindFault) → f ≢ bind_fault.NoMemory → IsBindFault design vars instance f → IsBindable design vars instance → ⊥
+unbound : (design : Design) (vars : List Var) (instance : List ℕ) (f : BindFault) → f ≢ bind_fault.NoMemory → IsBindFault design vars instance f → HasInstance vars instance → ⊥
 unbound design vars instance bind_fault.NoMemory named is bound = named refl
-unbound design vars instance bind_fault.NoInstance named is bound = false≢true (sym is ∙ bound.instance_is)
-unbound design vars instance (bind_fault.InputNotDumped signal) named is bound = some_or_none _ (bound.inputs signal is.listed is.input) is.none
+unbound design vars instance bind_fault.NoInstance named is bound = false≢true (sym is ∙ bound)
 
 -- where the replay has a fault the design is bound
-pub replay_binds : (habit : Habit) (design : Design) (vars : List Var) (instance : List ℕ) (entries : List Entry) (f : ReplayFault) → IsReplayFault habit design vars instance entries f → IsBindable design vars instance
-replay_binds habit design vars instance entries (NoBaseline s) is = is.bindable
-replay_binds habit design vars instance entries (Contradiction s time dumped computed) is = is.bindable
+pub replay_binds : (habit : Habit) (design : Design) (vars : List Var) (instance : List ℕ) (entries : List Entry) (f : ReplayFault) → IsReplayFault habit design vars instance entries f → HasInstance vars instance
+replay_binds habit design vars instance entries (NoBaseline s) is = is.there
+replay_binds habit design vars instance entries (Contradiction s time dumped computed) is = is.there
 
 module _ (habit : Habit) (design : Design) (instance text : List ℕ) (f : BindFault) (named : f ≢ bind_fault.NoMemory) (is : IsTextFault habit design instance text (score_fault.Bind f)) where
-  not_bound : (b : Body) → SaysBody text b → IsBindable design b.vars instance → ⊥
+  not_bound : (b : Body) → SaysBody text b → HasInstance b.vars instance → ⊥
   not_bound b says bound =
       unbound design b.vars instance f named (subst (λ vars. IsBindFault design vars instance f) (sym (one_header text is.0 b is.1 says)) is.2) bound
 

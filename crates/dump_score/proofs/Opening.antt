@@ -19,7 +19,7 @@ use Rattle.vcd_reader.specs.declared.vars.Var.{Var}
 use Rattle.cover_points.specs.declared.listing.Points.{Points}
 use Rattle.dump_replay.specs.Followed.{HasFollowed}
 use Rattle.dump_replay.specs.declared.replay.DumpReplay.{DumpReplay}
-use Rattle.signal_binding.specs.Binding.{IsBindFault, IsBindable}
+use Rattle.signal_binding.specs.Binding.{HasInstance, IsBindFault}
 use Rattle.whole_files.specs.Effects.{OnlyReads}
 use Rattle.dump_score.specs.Faults.{Binds, IsDumpFault, IsEndFault, IsFaultOfHeader, IsFileFault, IsFoundFault, IsScoreFault, LacksNone}
 use Rattle.dump_score.specs.Reading.{HasReadFile, IsFile}
@@ -104,37 +104,37 @@ begins_more text rest b begun = record {
   stands = begun.stands;
 }
 
-named_fault : (design : Design) (instance text : List ℕ) (f : DumpFault) → HasFault text f → Binds design instance text → LacksNone design instance text → IsDumpFault design instance text f
+named_fault : (design : Design) (instance text : List ℕ) (f : DumpFault) → HasFault text f → Binds instance text → LacksNone design instance text → IsDumpFault design instance text f
 named_fault design instance text dump_fault.NoMemory is binds none = tt
 named_fault design instance text (dump_fault.At kind byte) is binds none = (inl is, inr (binds, none))
 
-named_end : (design : Design) (instance text : List ℕ) (f : DumpFault) → EndsWithFault text f → Binds design instance text → LacksNone design instance text → IsDumpFault design instance text f
+named_end : (design : Design) (instance text : List ℕ) (f : DumpFault) → EndsWithFault text f → Binds instance text → LacksNone design instance text → IsDumpFault design instance text f
 named_end design instance text dump_fault.NoMemory is binds none = tt
 named_end design instance text (dump_fault.At kind byte) is binds none = (inr is, inr (binds, none))
 
 -- a design that is scored is bound, whatever comes after
-scoring_binds : (body : BodyRow) (replay : DumpReplay) (habit : Habit) (design : Design) (points : Points) (vars : List Var) (instance text rest : List ℕ) → IsScoring body replay habit design points vars instance text → Binds design instance (text ++ rest)
+scoring_binds : (body : BodyRow) (replay : DumpReplay) (habit : Habit) (design : Design) (points : Points) (vars : List Var) (instance text rest : List ℕ) → IsScoring body replay habit design points vars instance text → Binds instance (text ++ rest)
 scoring_binds body replay habit design points vars instance text rest is = (
   is.b,
   inl (record { front = text; rest = rest; word = is.stands.stands.word; split = refl; stands = is.stands.stands.stands }),
-  subst (λ vs. IsBindable design vs instance) (sym is.vars_are) is.followed.of.bindable,
+  subst (λ vs. HasInstance vs instance) (sym is.vars_are) is.followed.of.there,
 )
 
-pub scoring_binds_on : (body : BodyRow) (replay : DumpReplay) (habit : Habit) (design : Design) (points : Points) (vars : List Var) (instance text piece rest : List ℕ) → IsScoring body replay habit design points vars instance text → Binds design instance ((text ++ piece) ++ rest)
-scoring_binds_on body replay habit design points vars instance text piece rest is = subst (Binds design instance) (sym (append_assoc text piece rest)) (scoring_binds body replay habit design points vars instance text (piece ++ rest) is)
+pub scoring_binds_on : (body : BodyRow) (replay : DumpReplay) (habit : Habit) (design : Design) (points : Points) (vars : List Var) (instance text piece rest : List ℕ) → IsScoring body replay habit design points vars instance text → Binds instance ((text ++ piece) ++ rest)
+scoring_binds_on body replay habit design points vars instance text piece rest is = subst (Binds instance) (sym (append_assoc text piece rest)) (scoring_binds body replay habit design points vars instance text (piece ++ rest) is)
 
-pub can_end_binds : (body : BodyRow) (replay : DumpReplay) (habit : Habit) (design : Design) (points : Points) (vars : List Var) (instance text : List ℕ) → CanEnd body replay habit design points vars instance text → Binds design instance text
+pub can_end_binds : (body : BodyRow) (replay : DumpReplay) (habit : Habit) (design : Design) (points : Points) (vars : List Var) (instance text : List ℕ) → CanEnd body replay habit design points vars instance text → Binds instance text
 can_end_binds body replay habit design points vars instance text can = (
   can.b,
   elim can.stands [
     | inl read ↦ inl (record { front = text; rest = []; word = read.stands.word; split = sym (append-nil text); stands = read.stands.stands })
     | inr ended ↦ inr ended.ended.ends
   ],
-  subst (λ vs. IsBindable design vs instance) (sym can.vars_are) can.followed.of.bindable,
+  subst (λ vs. HasInstance vs instance) (sym can.vars_are) can.followed.of.there,
 )
 
 -- a fault that was found stands in the whole file
-pub found_in_file : (name : List ℕ) (before after now : Outside) (habit : Habit) (design : Design) (instance text : List ℕ) (f : ScoreFault) → HasReadFile name before now text → ((rest : List ℕ) → Binds design instance (text ++ rest)) → IsFoundFault habit design instance text f → IsScoreFault name before after habit design instance f
+pub found_in_file : (name : List ℕ) (before after now : Outside) (habit : Habit) (design : Design) (instance text : List ℕ) (f : ScoreFault) → HasReadFile name before now text → ((rest : List ℕ) → Binds instance (text ++ rest)) → IsFoundFault habit design instance text f → IsScoreFault name before after habit design instance f
 found_in_file name before after now habit design instance text (fault.Dump f) file binds is =
     let whole = file_of name text before now file in
     (text ++ whole.0, whole.1, named_fault design instance (text ++ whole.0) f (fault_stays text whole.0 f is.0) (binds whole.0) (is.1 whole.0))
@@ -146,7 +146,7 @@ found_in_file name before after now habit design instance text (fault.Refused ca
 found_in_file name before after now habit design instance text (fault.Bind f) file binds is = absurd is
 
 -- so does one at its end
-pub end_in_file : (name : List ℕ) (before after : Outside) (habit : Habit) (design : Design) (instance text : List ℕ) (f : ScoreFault) → IsFile before name text → Binds design instance text → IsEndFault habit design instance text f → IsScoreFault name before after habit design instance f
+pub end_in_file : (name : List ℕ) (before after : Outside) (habit : Habit) (design : Design) (instance text : List ℕ) (f : ScoreFault) → IsFile before name text → Binds instance text → IsEndFault habit design instance text f → IsScoreFault name before after habit design instance f
 end_in_file name before after habit design instance text (fault.Dump f) file binds is = (text, file, named_end design instance text f is.0 binds is.1)
 end_in_file name before after habit design instance text (fault.Replay f) file binds is = (text, file, (is.0, inr is.1, is.2))
 end_in_file name before after habit design instance text fault.NoMemory file binds is = absurd is

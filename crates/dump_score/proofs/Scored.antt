@@ -66,7 +66,7 @@ module _ (replay : DumpReplay) (habit : Habit) (design : Design) (points : Point
 
   scored_bound : IsBound design said instance
   scored_bound = record {
-    bindable = scored.followed.of.bindable;
+    there = scored.followed.of.there;
     first_values = λ two s. scored.followed.taken.based (subst (λ n. 2 ≤ n) (sym (length-map (steps_of scored.b.items) (λ step. step.time)) ∙ ap length (times_are scored.b.items)) two) s;
   }
 

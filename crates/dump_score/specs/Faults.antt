@@ -5,7 +5,7 @@ use Rattle.design_model.specs.declared.design.Design.{Design}
 use Rattle.dump_replay.specs.Faults.{IsReplayFault}
 use Rattle.dump_replay.specs.shown_dumps.Bound.{HasNoBaseline}
 use Rattle.event_machine.specs.Habit.{Habit}
-use Rattle.signal_binding.specs.Binding.{IsBindFault, IsBindable}
+use Rattle.signal_binding.specs.Binding.{HasInstance, IsBindFault}
 use Rattle.vcd_reader.specs.Dump.{BeginsAs, HasNoBody, SaysBody}
 use Rattle.vcd_reader.specs.Reading.{Body}
 use Rattle.vcd_reader.specs.Text.{EndsAs, EndsWithFault, HasFault}
@@ -19,9 +19,9 @@ use Rattle.dump_score.specs.declared.fault.ScoreFault.TheVariants as fault
 abbrev pub SaysSome : List ℕ → (Body → Type 0) → Type 0
 SaysSome text P = (b : Body) × SaysBody text b × P b
 
--- the header of the text is read, and each input of the design, of which the instance is the top, is bound to its variables
-abbrev pub Binds : Design → List ℕ → List ℕ → Type 0
-Binds design instance text = SaysSome text (λ b. IsBindable design b.vars instance)
+-- the header of the text is read, and the instance is there
+abbrev pub Binds : List ℕ → List ℕ → Type 0
+Binds instance text = SaysSome text (λ b. HasInstance b.vars instance)
 
 -- as far as the text says, each signal of the design that is bound has a value before the second time
 abbrev pub LacksNone : Design → List ℕ → List ℕ → Type 0
@@ -39,7 +39,7 @@ IsFaultOfHeader text (dump_fault.At kind byte) = IsFirstFault text (dump_fault.A
 -- the fault is one of the header, or one of the body of a text to which the design is bound and which lacks no first value before it, if it is not want of memory
 abbrev pub IsDumpFault : Design → List ℕ → List ℕ → DumpFault → Type 0
 IsDumpFault design instance text dump_fault.NoMemory = Unit {0}
-IsDumpFault design instance text (dump_fault.At kind byte) = IsFirstFault text (dump_fault.At kind byte) × (HasNoBody text ⊎ (Binds design instance text × LacksNone design instance text))
+IsDumpFault design instance text (dump_fault.At kind byte) = IsFirstFault text (dump_fault.At kind byte) × (HasNoBody text ⊎ (Binds instance text × LacksNone design instance text))
 
 -- the text of the dump of the design has the fault, of which the instance is the top; a fault of the replay is one of what the text says
 -- up to a time, whatever comes after it

@@ -1,11 +1,13 @@
 -- The laws for the dump of a text.
 use Rattle.std.proofs.Common.{ℕ, List, sym, subst}
 use Rattle.design_model.specs.Shows.{BindsSignals, IsDumpOf}
+use Rattle.design_model.specs.StillLaw.{BindsInputs}
 use Rattle.design_model.specs.View.{design_view}
 use Rattle.design_model.specs.declared.design.Design.{Design}
+use Rattle.hidden_times.specs.Hidden.{IsAnyDumpOf}
 use Rattle.shown_dumps.proofs.Dumps.{coded_signal, is_dump}
 use Rattle.shown_dumps.specs.Shown.{bound_dump, dump_of}
-use Rattle.signal_binding.specs.Binding.{IsBindable, codes_of}
+use Rattle.signal_binding.specs.Binding.{codes_of}
 use Rattle.vcd_reader.proofs.RisingTimes.{times_rise}
 use Rattle.vcd_reader.specs.Dump.{Dump, IsDump}
 use Rattle.design_model.specs.RoundLaws.{read_by}
@@ -23,13 +25,15 @@ pub no_contradiction_law : NoContradictionLaw
 no_contradiction_law design dump instance t inputs refuted = never_contradicted (design_view design) inputs (bound_dump design dump instance) (binds_signals design dump instance) t refuted
 
 -- the dump of a text in which the inputs are bound is one of the design
-dump_is : (design : Design) (text instance : List ℕ) (dump : Dump) → IsDump text dump → IsBindable design dump.vars instance → IsDumpOf (design_view design) (bound_dump design dump instance)
-dump_is design text instance dump is bindable =
-    subst (λ steps. IsDumpOf (design_view design) (dump_of (codes_of design dump.vars instance) steps)) (sym is.steps) (is_dump design dump.vars instance is.b.items bindable (times_rise text is.b is.ends))
+dump_is : (design : Design) (text instance : List ℕ) (dump : Dump) → IsDump text dump → BindsInputs (design_view design) (bound_dump design dump instance) → IsDumpOf (design_view design) (bound_dump design dump instance)
+dump_is design text instance dump is inputs =
+    let any : IsAnyDumpOf (design_view design) (bound_dump design dump instance) =
+    subst (λ steps. IsAnyDumpOf (design_view design) (dump_of (codes_of design dump.vars instance) steps)) (sym is.steps) (is_dump design dump.vars instance is.b.items (times_rise text is.b is.ends)) in
+    record { rising = any.rising; signals = any.signals; inputs = inputs; stays = any.stays }
 
 pub exact_law : ExactLaw
-exact_law design text instance dump db inputs lawful is bindable listed sound reasoned = λ rounds by_last.
+exact_law design text instance dump db inputs lawful is bound listed sound reasoned = λ rounds by_last.
     let said = bound_dump design dump instance in
-    let fits = dump_is design text instance dump is bindable in
+    let fits = dump_is design text instance dump is bound in
     let read : IsDumpOf (design_view design) (read_by said rounds) = record { rising = fits.rising; signals = fits.signals; inputs = fits.inputs; stays = fits.stays } in
     exact_table (design_view design) lawful inputs (read_by said rounds) read db listed (sound rounds by_last) (reasoned rounds by_last)

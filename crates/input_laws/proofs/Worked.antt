@@ -1,5 +1,5 @@
 -- The worked case, computed.
-use Rattle.std.proofs.Common.{◌≡◌, ℕ, zero, suc, ◌+◌, ◌<◌, true, false, [], refl, subst, lit≤, arith}
+use Rattle.std.proofs.Common.{◌≡◌, ℕ, zero, suc, ◌+◌, ◌<◌, true, false, refl, subst, lit≤, arith}
 use Rattle.std.proofs.lemmas.Bool.{false≢true}
 use Rattle.std.proofs.lemmas.List.Elements.{All-from_recursion}
 use Rattle.std.specs.Prelude.{codes}
@@ -11,7 +11,8 @@ use Rattle.verdict_laws.specs.table_laws.point_table.cover_points.design_machine
 use Rattle.design_model.specs.declared.point.Point.{Point}
 use Rattle.design_model.specs.declared.point.Point.TheVariants.{Line as line_point, Logic as logic_point, Toggle as toggle_point, State as state_point, Arc as arc_point, Word as word_point}
 use Rattle.four_state.specs.declared.bit.Bit.TheVariants.{One, Zero}
-use Rattle.signal_binding.specs.Binding.{IsBindable, IsBoundInput}
+use Rattle.design_model.specs.Machine.{is_input_cell}
+use Rattle.design_model.specs.StillLaw.{BindsInputs}
 use Rattle.verdict_laws.specs.table_laws.Rows.{IsAddressOf}
 use Rattle.input_laws.specs.Exact.{IsExactVerdict}
 use Rattle.input_laws.specs.Inputs.{HasInputsAlone}
@@ -22,18 +23,18 @@ use Rattle.input_laws.proofs.Texts.{shown_law}
 nested_inputs : HasInputsAlone nested_tree
 nested_inputs = record { processes = refl; memories = refl; signals = All-from_recursion (λ s. s.input ≡ true) nested_tree.signals (refl, (refl, tt)) }
 
-nested_bindable : IsBindable nested nested_dump.vars (codes "tb.dut")
-nested_bindable = record { instance_is = refl; inputs = λ s within. inputs s }
+nested_bound : BindsInputs nested_tree nested_values
+nested_bound c is = inputs c.thing c.place is
   where
-    inputs : (s : ℕ) → IsBoundInput nested nested_dump.vars (codes "tb.dut") s
-    inputs zero is = refl
-    inputs (suc zero) is = refl
-    inputs (suc (suc s)) is = absurd (false≢true is)
+    inputs : (s i : ℕ) → is_input_cell nested_tree (cell s i) ≡ true → nested_values.bound s ≡ true
+    inputs zero i is = refl
+    inputs (suc zero) i is = refl
+    inputs (suc (suc s)) i is = absurd (false≢true is)
 
 pub worked_run : IsWorkedRun
 worked_run = record {
   inputs = nested_inputs;
-  bindable = nested_bindable;
+  bound = nested_bound;
   inner_name = refl;
   run = shown_law nested nested_dump (codes "tb.dut") nested_inputs;
 }

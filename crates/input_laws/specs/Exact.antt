@@ -11,6 +11,7 @@ use Rattle.design_model.specs.Points.{toggle_cell}
 use Rattle.verdict_laws.specs.table_laws.point_table.cover_points.design_machines.state_machines.Drawn.{IsPointWith}
 use Rattle.verdict_laws.specs.table_laws.point_table.cover_points.design_machines.state_machines.Machines.{no_machines}
 use Rattle.design_model.specs.Shows.{BoundDump}
+use Rattle.design_model.specs.StillLaw.{BindsInputs}
 use Rattle.design_model.specs.View.{design_view}
 use Rattle.design_model.specs.declared.design.Design.{Design}
 use Rattle.design_model.specs.declared.point.Point.{Point}
@@ -18,7 +19,6 @@ use Rattle.design_model.specs.declared.point.Point.TheVariants.{Toggle as toggle
 use Rattle.event_machine.specs.Habit.{Free}
 use Rattle.shown_dumps.specs.Rounds.{ByLastRounds}
 use Rattle.shown_dumps.specs.Shown.{bound_dump}
-use Rattle.signal_binding.specs.Binding.{IsBindable}
 use Rattle.vcd_reader.specs.Dump.{Dump, IsDump}
 use Rattle.verdict_laws.specs.Reasoned.{IsReasoned}
 use Rattle.verdict_laws.specs.Sound.{IsSound}
@@ -52,7 +52,7 @@ IsExact d dump db = All (IsExactRow d dump db.instances) db.points
 abbrev pub ExactLaw : Type 0
 ExactLaw =
     (design : Design) (text instance : List ℕ) (dump : Dump) (db : Db) → HasInputsAlone (design_view design) → IsLawfulDesign (design_view design)
-    → IsDump text dump → IsBindable design dump.vars instance → ListsPoints (design_view design) no_machines db
+    → IsDump text dump → BindsInputs (design_view design) (bound_dump design dump instance) → ListsPoints (design_view design) no_machines db
     → ByLastRounds (design_view design) (bound_dump design dump instance) (λ said. IsSound (design_view design) Free said no_machines db)
     → ByLastRounds (design_view design) (bound_dump design dump instance) (λ said. IsReasoned (design_view design) Free said no_machines db)
     → ByLastRounds (design_view design) (bound_dump design dump instance) (λ said. IsExact (design_view design) said db)

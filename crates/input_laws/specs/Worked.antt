@@ -14,7 +14,8 @@ use Rattle.design_model.specs.declared.design.Signal.{Signal}
 use Rattle.four_state.specs.declared.bit.Bit.{Bit}
 use Rattle.four_state.specs.declared.bit.Bit.TheVariants.{One, X, Zero}
 use Rattle.shown_dumps.specs.Shown.{bound_dump, code_at}
-use Rattle.signal_binding.specs.Binding.{IsBindable, codes_of}
+use Rattle.design_model.specs.StillLaw.{BindsInputs}
+use Rattle.signal_binding.specs.Binding.{codes_of}
 use Rattle.vcd_reader.specs.Dump.{Change, Dump}
 use Rattle.input_laws.specs.Exact.{IsExactRow}
 use Rattle.input_laws.specs.Inputs.{HasInputsAlone}
@@ -75,7 +76,7 @@ nested_values = bound_dump nested nested_dump (codes "tb.dut")
 -- the design is one of inputs, the dump binds them, by the inner name for clk, and some run shows it
 pub record IsWorkedRun : Type 0 where
   pub inputs : HasInputsAlone nested_tree
-  pub bindable : IsBindable nested nested_dump.vars (codes "tb.dut")
+  pub bound : BindsInputs nested_tree nested_values
   pub inner_name : code_at (codes_of nested nested_dump.vars (codes "tb.dut")) 0 ≡ Some 1
   pub run : SomeRunShows nested_tree nested_values
 

@@ -64,6 +64,7 @@ step =
       tables = record { watched = λ p. []; clocked = []; order = []; last = [] };
       sets = record { moves = λ x. x == 1; trigger = λ p. None; round = λ p. 0; wakes = λ p. None; early = λ p x. false };
       time = 5;
+      listed = true;
       new = pipe_values Zero One One X X;
       start = replay kept [];
     }
@@ -99,7 +100,7 @@ pub record IsStepExample (ps : Points) : Type 0 where
   pub thing : MarksThing step ps 1 (Missed ∷ Missed ∷ Missed ∷ []) (Missed ∷ Hit ∷ Hit ∷ [])
   pub other_thing : MarksThing step ps 2 (Missed ∷ Missed ∷ Missed ∷ []) (Missed ∷ Hit ∷ Hit ∷ []) → ⊥
   pub too_few : FitsMachines pipe ps few_rows → ⊥
-  pub other_time : (x : Store) (v : StepVectors) → IsOver step (1 ∷ []) 6 x v → ⊥
-  pub left_out : (x : Store) (v : StepVectors) → IsOver step [] 5 x v → ⊥
-  pub too_many : (x : Store) (v : StepVectors) → IsOver step (1 ∷ 2 ∷ []) 5 x v → ⊥
-  pub not_moving : (x : Store) (v : StepVectors) → IsMoving step 2 5 x v → ⊥
+  pub other_time : (x : Store) (v : StepVectors) → IsOver step (1 ∷ []) 6 true x v → ⊥
+  pub left_out : (x : Store) (v : StepVectors) → IsOver step [] 5 true x v → ⊥
+  pub too_many : (x : Store) (v : StepVectors) → IsOver step (1 ∷ 2 ∷ []) 5 true x v → ⊥
+  pub not_moving : (x : Store) (v : StepVectors) → IsMoving step 2 5 true x v → ⊥

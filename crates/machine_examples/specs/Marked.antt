@@ -96,9 +96,9 @@ pub record HasOneMachine (ps : Points) : Type 0 where
 
 -- the signal rises: the second state and the arc are hit, and neither the first state, nor is the second passed over
 pub record IsMarksExample (ps : Points) : Type 0 where
-  pub machine : MarksMachine ps 0 light 5 (Some Zero ∷ []) (Some One ∷ []) (Missed ∷ Missed ∷ Missed ∷ []) (Missed ∷ Hit ∷ Hit ∷ [])
-  pub not_first : MarksMachine ps 0 light 5 (Some Zero ∷ []) (Some One ∷ []) (Missed ∷ Missed ∷ Missed ∷ []) (Hit ∷ Hit ∷ Hit ∷ []) → ⊥
-  pub not_passed : MarksMachine ps 0 light 5 (Some Zero ∷ []) (Some One ∷ []) (Missed ∷ Missed ∷ Missed ∷ []) (Missed ∷ Missed ∷ Hit ∷ []) → ⊥
+  pub machine : MarksMachine true ps 0 light 5 (Some Zero ∷ []) (Some One ∷ []) (Missed ∷ Missed ∷ Missed ∷ []) (Missed ∷ Hit ∷ Hit ∷ [])
+  pub not_first : MarksMachine true ps 0 light 5 (Some Zero ∷ []) (Some One ∷ []) (Missed ∷ Missed ∷ Missed ∷ []) (Hit ∷ Hit ∷ Hit ∷ []) → ⊥
+  pub not_passed : MarksMachine true ps 0 light 5 (Some Zero ∷ []) (Some One ∷ []) (Missed ∷ Missed ∷ Missed ∷ []) (Missed ∷ Missed ∷ Hit ∷ []) → ⊥
   pub states : MarksStates ps 0 light 5 (Some One ∷ []) (Missed ∷ Missed ∷ Missed ∷ []) (Missed ∷ Hit ∷ Missed ∷ [])
   pub no_arc : MarksStates ps 0 light 5 (Some One ∷ []) (Missed ∷ Missed ∷ Missed ∷ []) (Missed ∷ Hit ∷ Hit ∷ []) → ⊥
   pub one : MarksOne ps (Arc 0 0 1) (record { signal = 1; time = 5 }) false true (Hit ∷ Missed ∷ Missed ∷ []) (Hit ∷ Missed ∷ Undetermined (record { thing = 1; time = 5 }) ∷ [])

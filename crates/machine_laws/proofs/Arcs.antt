@@ -1,5 +1,5 @@
 -- The values of an arc.
-use Rattle.std.proofs.Common.{◌≡◌, ◌≢◌, ◌∙◌, ◌&&◌, ℕ, true, List, [], ◌∷◌, length, ⊎_elim, refl, sym, ap, ap₂, subst, arith}
+use Rattle.std.proofs.Common.{◌≡◌, ◌≢◌, ◌∙◌, ◌&&◌, ℕ, true, List, [], ◌∷◌, ⊎_elim, refl, sym, ap, ap₂, subst, arith}
 use Rattle.std.proofs.lemmas.Bool.{cases_lt}
 use Rattle.mark_laws.specs.cover_points.Listed.{IsPlaced, IsPointList, points_of}
 use Rattle.mark_laws.specs.cover_points.MachinePoints.{IsOfMachine, machine_view}

@@ -1,5 +1,5 @@
 -- The verdicts of states and arcs after a step.
-use Rattle.std.proofs.Common.{◌≡◌, ◌∙◌, ◌<◌, ◌++◌, ◌||◌, not, ℕ, Bool, true, false, Some, None, List, [], ◌∷◌, length, map, inl, inr, refl, sym, ap, ap₂, subst}
+use Rattle.std.proofs.Common.{◌≡◌, ◌∙◌, ◌<◌, ◌++◌, ◌||◌, ◌&&◌, not, ℕ, Bool, true, false, Option, Some, None, List, [], ◌∷◌, length, map, inl, inr, refl, sym, ap, ap₂, subst}
 use Rattle.std.specs.List.{range_with_len}
 use Rattle.std.specs.Prelude.{if◌then◌else◌}
 use Rattle.mark_laws.specs.replay_model.design_model.event_machine.Cell.{Cell}
@@ -11,15 +11,16 @@ use Rattle.mark_laws.specs.cover_points.MachinePoints.{IsOfMachine, machine_of, 
 use Rattle.mark_laws.specs.cover_points.Visits.{IsMachinePointAt, IsVisitOf, point_at}
 use Rattle.mark_laws.specs.cover_points.design_machines.Machines.{machine_at}
 use Rattle.mark_laws.specs.cover_points.design_machines.declared.machine.Machine.{Machine}
-use Rattle.mark_laws.specs.cover_points.design_machines.state_machines.Same.{bits_at}
 use Rattle.mark_laws.specs.cover_points.declared.listing.Points.{Points}
 use Rattle.mark_laws.specs.cover_points.declared.machine_point.MachinePoint.{MachinePoint}
 use Rattle.mark_laws.specs.cover_points.declared.machine_point.MachinePoint.TheVariants.{Arc, State}
 use Rattle.mark_laws.specs.cover_points.declared.visit.Visit.{Visit}
 use Rattle.mark_laws.specs.replay_model.Marks.{IsHitMarked, IsUnmarked, IsVerdict, Marking}
-use Rattle.mark_laws.specs.replay_model.Step.{Closing, all_run, are_surely, known_bits, may_be, point_notes, tell}
+use Rattle.mark_laws.specs.replay_model.Step.{Closing, all_run, are_surely, before_of, known_bits, mark_had, mark_reached, may_be, point_notes, tell}
 use Rattle.mark_laws.specs.replay_model.body_replay.Store.{Kept}
 use Rattle.mark_laws.specs.replay_model.design_model.Design.{Design, cell, signal_at}
+use Rattle.mark_laws.specs.replay_model.four_state.Vector.{Vector}
+use Rattle.mark_laws.specs.replay_model.four_state.declared.bit.Bit.{Bit}
 use Rattle.mark_laws.specs.replay_model.design_model.declared.point.Point.{Point}
 use Rattle.mark_laws.specs.replay_model.design_model.declared.point.Point.TheVariants as point
 use Rattle.replay_steps.specs.Settling.{IsStillAt}
@@ -27,7 +28,7 @@ use Rattle.point_marks.specs.declared.verdict.Verdict.{Verdict}
 use Rattle.point_marks.specs.declared.verdict.Verdict.TheVariants as marks
 use Rattle.signal_marks.specs.Toggled.{toggled}
 use Rattle.toggle_laws.specs.Turns.{FollowToggles}
-use Rattle.machine_marks.specs.Marked.{marked_if}
+use Rattle.machine_marks.specs.Marked.{chances_in, chances_of, marked_if}
 use Rattle.machine_laws.specs.Followed.{FollowLaw, MarksMachines, SeenLaw, is_due, step_chances, with_machine}
 use Rattle.machine_laws.specs.Told.{AreTold, IsTold, IsToldOf}
 use Rattle.machine_laws.proofs.Places.{machine_point_at, of_machine_at, unvisited, view_at}
@@ -75,11 +76,11 @@ if_moves st x s sure possible v true = toggled_told st x s sure possible v
 if_moves st x s sure possible v false = refl
 
 module _ (st : Closing) (ps : Points) (told : Bool) (before middle after : List Verdict) (verdicts : AreVerdicts st.design ps (all_run st).notes before) (still : IsStillAt st (all_run st))
-    (more : List Marking) (noted : (all_run st).notes ≡ st.start.notes ++ more) (are_told : told ≡ true → AreTold st.design ps st.start)
+    (more : List Marking) (noted : (all_run st).notes ≡ st.start.notes ++ more) (are_told : told ≡ true → st.listed ≡ true → AreTold st.design ps st.start) (hidden_told : st.listed ≡ false → told ≡ true)
     (toggles : FollowToggles st ps before middle) (machines : MarksMachines st ps told middle after) where
   state_follows : (k m j : ℕ) (x : Machine) → k < length (points_of ps) → IsMachinePointAt ps k (State m j) → x ≡ machine_at ps.machines.items m → (v : Verdict) → v ≡ verdict_at before k
       → with_machine st x told (State m j) v ≡ with_notes (point_notes st (machine_view ps.machines.items (State m j))) v
-  state_follows k m j x l at is v e = go (st.sets.moves x.signal) told refl refl
+  state_follows k m j x l at is v e = by_listed st.listed refl
     where
       y : Point
       y = machine_view ps.machines.items (State m j)
@@ -90,12 +91,26 @@ module _ (st : Closing) (ps : Points) (told : Bool) (before middle after : List 
       possible : Bool
       possible = may_be (known_bits st.design (all_run st).kept (machine_at ps.machines.items m).signal) (state_value ps.machines.items m j).bits
 
-      marked : (b : Bool) → is_due st x told (State m j) ≡ b → with_machine st x told (State m j) v ≡ (if b then toggled (machine_at ps.machines.items m).signal st.time sure possible v else v)
-      marked b due = ap (λ c. marked_if c x.signal st.time (step_chances st x (State m j)) v) due ∙ ap (λ (z : Machine). if b then toggled z.signal st.time (are_surely (known_bits st.design (all_run st).kept z.signal) (bits_at z.values j)) (may_be (known_bits st.design (all_run st).kept z.signal) (bits_at z.values j)) v else v) is
+      -- at a time that the dump does not list it may be come to
+      reached : Bool
+      reached = possible && not (are_surely (known_bits st.design (before_of st) (machine_at ps.machines.items m).signal) (state_value ps.machines.items m j).bits)
 
-      told_here : told ≡ true → st.sets.moves x.signal ≡ false → IsTold st.design y (all_run st).notes sure possible
-      told_here t rests =
-          let start : IsToldOf st.design st.start y = subst (λ z. IsToldOf st.design st.start z) (view_at ps k (State m j) at) (are_told t k l) in
+      marked : (b c : Bool) → st.listed ≡ b → is_due st x told (State m j) ≡ c
+          → with_machine st x told (State m j) v ≡ marked_if c (machine_at ps.machines.items m).signal st.time (chances_in b (machine_at ps.machines.items m).values (known_bits st.design (before_of st) (machine_at ps.machines.items m).signal) (known_bits st.design (all_run st).kept (machine_at ps.machines.items m).signal) (State m j)) v
+      marked b c listed due =
+          ap (λ d. marked_if d x.signal st.time (step_chances st x (State m j)) v) due
+          ∙ ap (λ h. marked_if c x.signal st.time (chances_in h x.values (known_bits st.design (before_of st) x.signal) (known_bits st.design (all_run st).kept x.signal) (State m j)) v) listed
+          ∙ ap (λ (z : Machine). marked_if c z.signal st.time (chances_in b z.values (known_bits st.design (before_of st) z.signal) (known_bits st.design (all_run st).kept z.signal) (State m j)) v) is
+
+      notes_are : (b : Bool) → st.listed ≡ b
+          → point_notes st y ≡ (if b then mark_had st y (machine_at ps.machines.items m).signal (state_value ps.machines.items m j).bits
+          else (if st.sets.moves (machine_at ps.machines.items m).signal then mark_reached st y (machine_at ps.machines.items m).signal (state_value ps.machines.items m j).bits else []))
+      notes_are b listed = ap (λ h. if h then mark_had st y (machine_at ps.machines.items m).signal (state_value ps.machines.items m j).bits
+          else (if st.sets.moves (machine_at ps.machines.items m).signal then mark_reached st y (machine_at ps.machines.items m).signal (state_value ps.machines.items m j).bits else [])) listed
+
+      told_here : told ≡ true → st.listed ≡ true → st.sets.moves x.signal ≡ false → IsTold st.design y (all_run st).notes sure possible
+      told_here t listed rests =
+          let start : IsToldOf st.design st.start y = subst (λ z. IsToldOf st.design st.start z) (view_at ps k (State m j) at) (are_told t listed k l) in
           let bits = still_bits st still (machine_at ps.machines.items m).signal (sym (ap (λ (z : Machine). st.sets.moves z.signal) is) ∙ rests) in
           let now : IsTold st.design y st.start.notes sure possible = subst (λ bs. IsTold st.design y st.start.notes (are_surely bs (state_value ps.machines.items m j).bits) (may_be bs (state_value ps.machines.items m j).bits)) (sym bits) start in
           subst (λ (ns : List Marking). IsTold st.design y ns sure possible) (sym noted) (told_before st.design y st.start.notes more sure possible now)
@@ -103,14 +118,30 @@ module _ (st : Closing) (ps : Points) (told : Bool) (before middle after : List 
       verdict_here : IsVerdict st.design y (all_run st).notes (verdict_view v)
       verdict_here = subst (λ w. IsVerdict st.design y (all_run st).notes (verdict_view w)) (sym e) (subst (λ z. IsVerdict st.design z (all_run st).notes (verdict_view (verdict_at before k))) (view_at ps k (State m j) at) (verdicts.each k l))
 
-      go : (b t : Bool) → st.sets.moves x.signal ≡ b → told ≡ t → with_machine st x told (State m j) v ≡ with_notes (point_notes st y) v
-      go true t moves is_told = marked true (ap (λ c. c || not told) moves) ∙ toggled_told st y (machine_at ps.machines.items m).signal sure possible v
-      go false false moves is_told = marked true (ap₂ (λ c t. c || not t) moves is_told) ∙ toggled_told st y (machine_at ps.machines.items m).signal sure possible v
-      go false true moves is_told = marked false (ap₂ (λ c t. c || not t) moves is_told) ∙ told_stays st y (all_run st).notes (machine_at ps.machines.items m).signal sure possible v verdict_here (told_here is_told moves)
+      go : st.listed ≡ true → (b t : Bool) → st.sets.moves x.signal ≡ b → told ≡ t → with_machine st x told (State m j) v ≡ with_notes (tell st y (machine_at ps.machines.items m).signal sure possible) v
+      go listed true t moves is_told = marked true true listed (ap (λ c. c || not told) moves) ∙ toggled_told st y (machine_at ps.machines.items m).signal sure possible v
+      go listed false false moves is_told = marked true true listed (ap₂ (λ c t. c || not t) moves is_told) ∙ toggled_told st y (machine_at ps.machines.items m).signal sure possible v
+      go listed false true moves is_told = marked true false listed (ap₂ (λ c t. c || not t) moves is_told) ∙ told_stays st y (all_run st).notes (machine_at ps.machines.items m).signal sure possible v verdict_here (told_here is_told listed moves)
+
+      go_hidden : st.listed ≡ false → with_machine st x told (State m j) v ≡ with_notes (if st.sets.moves (machine_at ps.machines.items m).signal then tell st y (machine_at ps.machines.items m).signal false reached else []) v
+      go_hidden listed =
+          let due : is_due st x told (State m j) ≡ (st.sets.moves (machine_at ps.machines.items m).signal || false) = ap₂ (λ (z : Machine) t. st.sets.moves z.signal || not t) is (hidden_told listed) in
+          marked false (st.sets.moves (machine_at ps.machines.items m).signal || false) listed due ∙ if_moves st y (machine_at ps.machines.items m).signal false reached v (st.sets.moves (machine_at ps.machines.items m).signal)
+
+      by_listed : (b : Bool) → st.listed ≡ b → with_machine st x told (State m j) v ≡ with_notes (point_notes st y) v
+      by_listed true listed = go listed (st.sets.moves x.signal) told refl refl ∙ ap (λ ns. with_notes ns v) (sym (notes_are true listed))
+      by_listed false listed = go_hidden listed ∙ ap (λ ns. with_notes ns v) (sym (notes_are false listed))
+
+  arc_in : (b : Bool) (vs : List Vector) (old now : List (Option Bit)) (m i j : ℕ) → chances_in b vs old now (Arc m i j) ≡ chances_of vs old now (Arc m i j)
+  arc_in true vs old now m i j = refl
+  arc_in false vs old now m i j = refl
 
   machine_follows : (k : ℕ) (p : MachinePoint) → k < length (points_of ps) → IsMachinePointAt ps k p → with_machine st (machine_at ps.machines.items (machine_of p)) told p (verdict_at before k) ≡ with_notes (point_notes st (machine_view ps.machines.items p)) (verdict_at before k)
   machine_follows k (State m j) l at = state_follows k m j (machine_at ps.machines.items m) l at refl (verdict_at before k) refl
-  machine_follows k (Arc m i j) l at = if_moves st (machine_view ps.machines.items (Arc m i j)) (machine_at ps.machines.items m).signal _ _ (verdict_at before k) (st.sets.moves (machine_at ps.machines.items m).signal)
+  machine_follows k (Arc m i j) l at =
+      ap (λ c. marked_if (st.sets.moves (machine_at ps.machines.items m).signal || false) (machine_at ps.machines.items m).signal st.time c (verdict_at before k))
+      (arc_in st.listed (machine_at ps.machines.items m).values (known_bits st.design (before_of st) (machine_at ps.machines.items m).signal) (known_bits st.design (all_run st).kept (machine_at ps.machines.items m).signal) m i j)
+      ∙ if_moves st (machine_view ps.machines.items (Arc m i j)) (machine_at ps.machines.items m).signal _ _ (verdict_at before k) (st.sets.moves (machine_at ps.machines.items m).signal)
 
   machine_each : (k : ℕ) (p : MachinePoint) → k < length (points_of ps) → IsMachinePointAt ps k p → verdict_at after k ≡ with_notes (point_notes st (point_at ps k)) (verdict_at before k)
   machine_each k p l at =
@@ -135,7 +166,7 @@ module _ (st : Closing) (ps : Points) (told : Bool) (before middle after : List 
   all_follow = record { count = machines.count ∙ toggles.count; each = λ k l. each_follows k (point_at ps k) l refl }
 
 pub follows : FollowLaw
-follows st ms ps told before middle after lawful list once verdicts still more are_told toggles machines = all_follow st ps told before middle after verdicts still more.0 more.1 are_told toggles machines
+follows st ms ps told before middle after lawful list once verdicts still more are_told hidden_told toggles machines = all_follow st ps told before middle after verdicts still more.0 more.1 are_told hidden_told toggles machines
 
 -- the toggles that are seen stay so
 pub stay_seen : SeenLaw

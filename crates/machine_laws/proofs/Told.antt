@@ -1,10 +1,11 @@
 -- What a step reports of states.
 use Rattle.std.proofs.Common.{◌≡◌, ◌<◌, ◌++◌, ℕ, zero, suc, Bool, true, false, List, [], ◌∷◌, length, get_or, inl, inr, refl, sym, subst, arith}
+use Rattle.std.specs.Prelude.{if◌then◌else◌}
 use Rattle.std.proofs.lemmas.Bool.{false≢true}
 use Rattle.mark_laws.specs.cover_points.Listed.{points_of}
 use Rattle.mark_laws.specs.cover_points.Visits.{no_point, point_at}
 use Rattle.mark_laws.specs.replay_model.Marks.{IsHitMarked, IsUnmarked, Marking}
-use Rattle.mark_laws.specs.replay_model.Step.{Closing, all_point_notes, all_run, are_surely, closed, known_bits, may_be, point_notes, tell}
+use Rattle.mark_laws.specs.replay_model.Step.{Closing, all_point_notes, all_run, are_surely, closed, known_bits, mark_had, mark_reached, may_be, point_notes, tell}
 use Rattle.mark_laws.specs.replay_model.design_model.Design.{Design}
 use Rattle.mark_laws.specs.replay_model.design_model.declared.point.Point.{Point}
 use Rattle.mark_laws.specs.replay_model.design_model.declared.point.Point.TheVariants as point
@@ -49,7 +50,7 @@ module _ (st : Closing) where
   told_among (y ∷ ys) (suc k) x sure possible l is h = told_after st.design x (point_notes st y) (all_point_notes st ys) sure possible (told_among ys k x sure possible (omega (arith, l)) is h)
 
 pub tells_all : ToldLaw
-tells_all st ps k l = go (point_at ps k) refl
+tells_all st ps listed k l = go (point_at ps k) refl
   where
     go : (x : Point) → point_at ps k ≡ x → IsToldOf st.design (closed st (points_of ps)) x
     go (point.Line p n at w) e = tt
@@ -58,6 +59,8 @@ tells_all st ps k l = go (point_at ps k) refl
     go (point.State i name s state x) e =
         let sure = are_surely (known_bits st.design (all_run st).kept s) x.bits in
         let possible = may_be (known_bits st.design (all_run st).kept s) x.bits in
-        told_after st.design (point.State i name s state x) (all_run st).notes (all_point_notes st (points_of ps)) sure possible (told_among st (points_of ps) k (point.State i name s state x) sure possible l e (tells st (point.State i name s state x) s sure possible))
+        told_after st.design (point.State i name s state x) (all_run st).notes (all_point_notes st (points_of ps)) sure possible (told_among st (points_of ps) k (point.State i name s state x) sure possible l e
+        (subst (λ b. IsTold st.design (point.State i name s state x) (if b then mark_had st (point.State i name s state x) s x.bits else (if st.sets.moves s then mark_reached st (point.State i name s state x) s x.bits else [])) sure possible) (sym listed)
+        (tells st (point.State i name s state x) s sure possible)))
     go (point.Arc i name s from to x y) e = tt
     go (point.Word m i write) e = tt

@@ -11,7 +11,7 @@ use Rattle.mark_laws.specs.cover_points.declared.machine_point.MachinePoint.TheV
 use Rattle.mark_laws.specs.Marked.{AreVerdicts}
 use Rattle.mark_laws.specs.Signals.{FollowNotes}
 use Rattle.mark_laws.specs.replay_model.Marks.{Marking}
-use Rattle.mark_laws.specs.replay_model.Step.{Closing, all_run, closed, known_bits}
+use Rattle.mark_laws.specs.replay_model.Step.{Closing, all_run, before_of, closed, known_bits}
 use Rattle.mark_laws.specs.replay_model.design_model.Design.{Design, In}
 use Rattle.mark_laws.specs.replay_model.design_model.Lawful.{IsLawfulDesign}
 use Rattle.mark_laws.specs.replay_model.design_model.declared.point.Point.TheVariants.{Arc as arc_point}
@@ -22,7 +22,7 @@ use Rattle.replay_steps.specs.Settling.{IsStillAt}
 use Rattle.point_marks.specs.declared.verdict.Verdict.{Verdict}
 use Rattle.signal_marks.specs.Seen.{AreSeen}
 use Rattle.toggle_laws.specs.Turns.{FollowToggles}
-use Rattle.machine_marks.specs.Marked.{Chances, MarksEach, chances_of, marked_if}
+use Rattle.machine_marks.specs.Marked.{Chances, MarksEach, chances_in, marked_if}
 use Rattle.machine_laws.specs.Told.{AreTold}
 
 -- it is a state
@@ -32,7 +32,7 @@ is_state (Arc k i j) = false
 
 -- how sure a state or an arc of a machine is in the step
 abbrev pub step_chances : Closing → Machine → MachinePoint → Chances
-step_chances st x p = chances_of x.values (known_bits st.design st.start.kept x.signal) (known_bits st.design (all_run st).kept x.signal) p
+step_chances st x p = chances_in st.listed x.values (known_bits st.design (before_of st) x.signal) (known_bits st.design (all_run st).kept x.signal) p
 
 -- a state or an arc of a machine is marked: where the signal may move, and a state where none was told before
 abbrev pub is_due : Closing → Machine → Bool → MachinePoint → Bool
@@ -54,12 +54,12 @@ HasMoreNotes st = (more : List Marking) × ((all_run st).notes ≡ st.start.note
 abbrev pub FollowLaw : Type 0
 FollowLaw =
     (st : Closing) (ms : StateMachines) (ps : Points) (told : Bool) (before middle after : List Verdict) → IsLawfulDesign st.design → IsPointList st.design ms ps → AreOnce ps
-    → AreVerdicts st.design ps (all_run st).notes before → IsStillAt st (all_run st) → HasMoreNotes st → (told ≡ true → AreTold st.design ps st.start)
+    → AreVerdicts st.design ps (all_run st).notes before → IsStillAt st (all_run st) → HasMoreNotes st → (told ≡ true → st.listed ≡ true → AreTold st.design ps st.start) → (st.listed ≡ false → told ≡ true)
     → FollowToggles st ps before middle → MarksMachines st ps told middle after → FollowNotes st ps before after
 
--- after a step each state was told
+-- after a step at a listed time each state was told
 abbrev pub ToldLaw : Type 0
-ToldLaw = (st : Closing) (ps : Points) → AreTold st.design ps (closed st (points_of ps))
+ToldLaw = (st : Closing) (ps : Points) → st.listed ≡ true → AreTold st.design ps (closed st (points_of ps))
 
 -- masks of toggles that are marked already stay so
 abbrev pub SeenLaw : Type 0

@@ -82,6 +82,18 @@ module _ (ps : Points) where
             let other : n ≢ k = λ same. true≢false (sym (is_itself p) ∙ ap (is_point p) (one_at k p q at (subst (λ m. IsMachinePointAt ps m q) same here)) ∙ e) in
             get_or-set_other vs k n new Missed other ∙ ap (λ b. marked_if b s time c (verdict_of vs n)) (sym e)
 
+    -- it is the same by chances that are the same where the test is passed
+    pub same_marks : (test : MachinePoint → Bool) (c d : MachinePoint → Chances) (before after : List Verdict) → ((q : MachinePoint) → test q ≡ true → c q ≡ d q) → MarksThose ps s time test c before after → MarksThose ps s time test d before after
+    same_marks test c d before after same marks = record {
+      count = marks.count;
+      each = λ n q at. marks.each n q at ∙ go q (verdict_of before n) (test q) refl;
+      others = marks.others;
+    }
+      where
+        go : (q : MachinePoint) (v : Verdict) (b : Bool) → test q ≡ b → marked_if (test q) s time (c q) v ≡ marked_if (test q) s time (d q) v
+        go q v true e = ap (λ k. marked_if (test q) s time k v) (same q e)
+        go q v false e = ap (λ b. marked_if b s time (c q) v) e ∙ ap (λ b. marked_if b s time (d q) v) (sym e)
+
     -- those of one test are marked, and then those of another one
     pub both_marked : (t u next : MachinePoint → Bool) (c d chances : MachinePoint → Chances) (before middle after : List Verdict) → MarksThose ps s time t c before middle → MarksThose ps s time u d middle after
         → ((q : MachinePoint) → t q ≡ true → u q ≡ true → ⊥) → ((q : MachinePoint) → next q ≡ (t q || u q)) → ((q : MachinePoint) → t q ≡ true → c q ≡ chances q) → ((q : MachinePoint) → u q ≡ true → d q ≡ chances q)

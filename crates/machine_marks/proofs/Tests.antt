@@ -8,7 +8,7 @@ use Rattle.design_machines.specs.state_machines.Same.{bits_at}
 use Rattle.four_state.specs.declared.bit.Bit.{Bit}
 use Rattle.four_state.specs.Vector.{Vector}
 use Rattle.mark_laws.specs.replay_model.Step.{are_surely, may_be}
-use Rattle.machine_marks.specs.Marked.{chances_from, chances_of, is_arc_below, is_arc_from, is_arc_of, is_of_machine, is_point, is_state_of}
+use Rattle.machine_marks.specs.Marked.{chances_from, chances_in, chances_of, is_arc_below, is_arc_from, is_arc_of, is_of_machine, is_point, is_state_of}
 
 pub both_so : (a b : Bool) → (a && b) ≡ true → (a ≡ true) × (b ≡ true)
 both_so true b h = (refl, h)
@@ -127,3 +127,9 @@ from_chances k n i vs old now sure possible e f (Arc m x y) h =
 pub state_chances : (k n : ℕ) (vs : List Vector) (old now : List (Option Bit)) (q : MachinePoint) → is_state_of k n q ≡ true → chances_of vs now now q ≡ chances_of vs old now q
 state_chances k n vs old now (State m j) h = refl
 state_chances k n vs old now (Arc m x y) h = absurd (false≢true h)
+
+-- how sure an arc is does not ask whether the time is listed
+pub arc_chances : (listed : Bool) (k n : ℕ) (vs : List Vector) (old now : List (Option Bit)) (q : MachinePoint) → is_arc_of k n q ≡ true → chances_of vs old now q ≡ chances_in listed vs old now q
+arc_chances true k n vs old now q h = refl
+arc_chances false k n vs old now (State m j) h = absurd (false≢true h)
+arc_chances false k n vs old now (Arc m x y) h = refl

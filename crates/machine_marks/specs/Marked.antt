@@ -1,5 +1,5 @@
 -- The verdicts of states and arcs after a step.
-use Rattle.std.specs.Prelude.{◌≡◌, ◌==◌, ◌&&◌, nat_lt, if◌then◌else◌, ℕ, Bool, true, false, List, Option, length}
+use Rattle.std.specs.Prelude.{◌≡◌, ◌==◌, ◌&&◌, not, nat_lt, if◌then◌else◌, ℕ, Bool, true, false, List, Option, length}
 use Rattle.design_machines.specs.state_machines.Same.{bits_at}
 use Rattle.design_machines.specs.declared.machine.Machine.{Machine}
 use Rattle.four_state.specs.declared.bit.Bit.{Bit}
@@ -60,6 +60,12 @@ chances_of values old now (State k i) = record { sure = are_surely now (bits_at 
 chances_of values old now (Arc k i j) =
     record { sure = are_surely old (bits_at values i) && are_surely now (bits_at values j); possible = may_be old (bits_at values i) && may_be now (bits_at values j) }
 
+-- the same where the time is listed; at another time a state is never sure, and may be where it may be come to
+abbrev pub chances_in : Bool → List Vector → List (Option Bit) → List (Option Bit) → MachinePoint → Chances
+chances_in true values old now p = chances_of values old now p
+chances_in false values old now (State k i) = record { sure = false; possible = may_be now (bits_at values i) && not (are_surely old (bits_at values i)) }
+chances_in false values old now (Arc k i j) = chances_of values old now (Arc k i j)
+
 -- a state of this machine, of so many
 abbrev pub is_state_of : ℕ → ℕ → MachinePoint → Bool
 is_state_of k n (State m i) = (k == m) && nat_lt i n
@@ -88,9 +94,9 @@ is_of_machine k n (Arc m i j) = is_arc_of k n (Arc m i j)
 abbrev pub MarksStates : Points → ℕ → Machine → ℕ → List (Option Bit) → List Verdict → List Verdict → Type 0
 MarksStates ps k x time now before after = MarksThose ps x.signal time (is_state_of k (length x.values)) (chances_of x.values now now) before after
 
--- its states and arcs are, by what is known before and after the step
-abbrev pub MarksMachine : Points → ℕ → Machine → ℕ → List (Option Bit) → List (Option Bit) → List Verdict → List Verdict → Type 0
-MarksMachine ps k x time old now before after = MarksThose ps x.signal time (is_of_machine k (length x.values)) (chances_of x.values old now) before after
+-- its states and arcs are, by what is known before and after a step at a time that is listed or not
+abbrev pub MarksMachine : Bool → Points → ℕ → Machine → ℕ → List (Option Bit) → List (Option Bit) → List Verdict → List Verdict → Type 0
+MarksMachine listed ps k x time old now before after = MarksThose ps x.signal time (is_of_machine k (length x.values)) (chances_in listed x.values old now) before after
 
 -- how sure an arc is that leaves a state of which so much is known
 abbrev pub chances_from : Bool → Bool → List Vector → List (Option Bit) → MachinePoint → Chances

@@ -1,6 +1,6 @@
 //! The states and arcs of a machine.
 
-ghost use Rattle.std.specs.Prelude.{◌≡◌, ◌≤◌, ◌<◌, ◌^◌, length};
+ghost use Rattle.std.specs.Prelude.{◌≡◌, ◌≤◌, ◌^◌, length};
 ghost use Rattle.std.specs.List.{All};
 ghost use Rattle.four_state.specs.Vector.{Vector};
 ghost use Rattle.cover_marks.specs.Marks.{AreMarksOf};
@@ -8,14 +8,14 @@ ghost use Rattle.machine_marks.specs.Marked.{MarksMachine, MarksThose, chances_f
 
 use crate::chance::Chance;
 use crate::mark::{Reason, mark_point};
-use crate::states::mark_values;
+use crate::states::mark_in_step;
 use cover_marks::Marks;
 use cover_points::{Machine, MachinePoint, Points};
 use four_state::Four;
 use known_state::Known;
 
 /// Marks the states and arcs of the machine with this number by what is known of its signal before and after the step that ends at
-/// this time. For two values that are wholly known it takes the time of the states; else that of the states that the signal may have had
+/// this time. At a time that the dump does not list a state is left open where the signal may come to it. For two values that are wholly known it takes the time of the states; else that of the states that the signal may have had
 /// before, each with all states.
 pub fn mark_machine(
     marks: &mut Marks,
@@ -24,6 +24,7 @@ pub fn mark_machine(
     machine: &Machine,
     before: &Known,
     after: &Known,
+    listed: bool,
     time: u64,
 )
     requires marks { AreMarksOf points.now marks.old }
@@ -31,14 +32,14 @@ pub fn mark_machine(
     requires after { All (λ (v : Vector). length v.bits ≡ length after.now.bits) machine.now.values }
     requires few { length machine.now.values ≤ 2 ^ 32 }
     ensures points { AreMarksOf points.now marks.new }
-    ensures machine { MarksMachine points.now number machine.now time before.now.bits after.now.bits marks.old.verdicts marks.new.verdicts }
+    ensures machine { MarksMachine listed points.now number machine.now time before.now.bits after.now.bits marks.old.verdicts marks.new.verdicts }
 {
     let reason = Reason {
         signal: machine.signal,
         time,
     };
     let values = machine.values.as_slice();
-    mark_values(marks, points, number, values, after, reason);
+    mark_in_step(marks, points, number, values, before, after, listed, reason);
     mark_arcs(marks, points, number, values, before, after, reason);
 }
 

@@ -1,6 +1,6 @@
 //! How sure it is that a signal has a value.
 
-ghost use Rattle.std.specs.Prelude.{◌≡◌, ◌&&◌, length};
+ghost use Rattle.std.specs.Prelude.{◌≡◌, ◌&&◌, false, length, not};
 ghost use Rattle.mark_laws.specs.replay_model.Step.{are_surely, may_be};
 ghost use Rattle.machine_marks.specs.Marked.{is_possible, is_sure};
 
@@ -31,6 +31,17 @@ impl Chance {
             Chance::Sure
         } else {
             Chance::Open
+        }
+    }
+
+    /// That it comes to be so, where it may have been so before.
+    pub(crate) fn coming(self, before: Self) -> Self
+        ensures sure { is_sure result ≡ false }
+        ensures possible { is_possible result ≡ (is_possible self && not (is_sure before)) }
+    {
+        match (self, before) {
+            (Chance::Never, _) | (_, Chance::Sure) => Chance::Never,
+            (Chance::Open | Chance::Sure, Chance::Never | Chance::Open) => Chance::Open,
         }
     }
 

@@ -1,6 +1,6 @@
 -- What a step reports of the points on signals, each verdict by what is reported of its own point.
 use Rattle.std.proofs.Common.{◌≡◌, ◌≢◌, ◌<◌, ◌+◌, ◌++◌, ℕ, zero, suc, Bool, true, false, Option, Some, None, List, [], ◌∷◌, length, get_or, refl, sym, ap, subst, ◌∙◌, append_assoc, inl, inr, arith}
-use Rattle.std.specs.Prelude.{if◌then◌else◌}
+use Rattle.std.specs.Prelude.{if◌then◌else◌, not, ◌&&◌}
 use Rattle.std.proofs.lemmas.Bool.{cases_eq}
 use Rattle.std.proofs.lemmas.List.{append-nil}
 use Rattle.replay_model.specs.four_state.declared.bit.Bit.{Bit}
@@ -14,7 +14,7 @@ use Rattle.replay_model.specs.design_model.declared.point.Point.TheVariants as p
 use Rattle.point_marks.specs.declared.verdict.Verdict.{Verdict}
 use Rattle.point_marks.specs.declared.verdict.Verdict.TheVariants as marks
 use Rattle.replay_model.specs.Marks.{IsKeyOf, IsVerdict, Marking, of_point}
-use Rattle.replay_model.specs.Step.{Closing, all_point_notes, point_notes, tell}
+use Rattle.replay_model.specs.Step.{Closing, all_point_notes, all_run, are_surely, before_of, known_bits, mark_had, mark_reached, may_be, point_notes, tell}
 use Rattle.mark_laws.specs.Numbered.{verdict_view}
 use Rattle.mark_laws.specs.Marked.{AreVerdicts, verdict_at}
 use Rattle.mark_laws.specs.Signals.{FollowNotes, with_mark, with_notes}
@@ -34,11 +34,20 @@ moves_of : (x : Point) (b : Bool) (ns : List Marking) → AreOf x ns → AreOf x
 moves_of x true ns h = h
 moves_of x false ns h = tt
 
+state_of : (st : Closing) (x : Point) (s : ℕ) (bits : List Bit) (listed : Bool) → AreOf x (if listed then mark_had st x s bits else (if st.sets.moves s then mark_reached st x s bits else []))
+state_of st x s bits true =
+    let after = known_bits st.design (all_run st).kept s in
+    tell_of st x s (are_surely after bits) (may_be after bits)
+state_of st x s bits false =
+    let before = known_bits st.design (before_of st) s in
+    let after = known_bits st.design (all_run st).kept s in
+    moves_of x (st.sets.moves s) (mark_reached st x s bits) (tell_of st x s false (may_be after bits && not (are_surely before bits)))
+
 notes_of : (st : Closing) (x : Point) → AreOf x (point_notes st x)
 notes_of st (point.Line p n at w) = tt
 notes_of st (point.Logic p n at op c) = tt
 notes_of st (point.Toggle s i rise) = moves_of (point.Toggle s i rise) (st.sets.moves s) _ (tell_of st (point.Toggle s i rise) s _ _)
-notes_of st (point.State i name s state x) = tell_of st (point.State i name s state x) s _ _
+notes_of st (point.State i name s state x) = state_of st (point.State i name s state x) s x.bits st.listed
 notes_of st (point.Arc i name s from to x y) = moves_of (point.Arc i name s from to x y) (st.sets.moves s) _ (tell_of st (point.Arc i name s from to x y) s _ _)
 notes_of st (point.Word m i write) = tt
 

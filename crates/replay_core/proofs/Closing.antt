@@ -1,5 +1,5 @@
 -- A closing step of each dump that was followed up to it.
-use Rattle.std.proofs.Common.{◌≡◌, ◌∙◌, ℕ, suc, ◌+◌, Bool, true, false, ◌++◌, List, flat_map, length, Option, Some, None, sym, ap, subst}
+use Rattle.std.proofs.Common.{◌≡◌, ◌∙◌, ℕ, suc, ◌+◌, ◌||◌, not, Bool, true, false, ◌++◌, List, flat_map, length, Option, Some, None, sym, ap, subst}
 use Rattle.std.specs.Prelude.{slice_index_or}
 use Rattle.std.proofs.lemmas.Bool.{or_left}
 use Rattle.event_machine.specs.Cell.{Cell}
@@ -15,6 +15,7 @@ use Rattle.design_model.specs.Shows.{BoundDump}
 use Rattle.dump_check.specs.Checks.{IsFirstDifference, last_of_each}
 use Rattle.dump_check.specs.declared.order.Difference.{Difference}
 use Rattle.early_sets.specs.WakeState.{WakeState}
+use Rattle.hidden_times.specs.Hidden.{is_listed}
 use Rattle.index_sets.specs.Rows.{row_at}
 use Rattle.first_step.specs.mark_laws.Marked.{AreVerdicts}
 use Rattle.process_order.proofs.Distinct.{filter_in, in_filter}
@@ -71,7 +72,7 @@ dumped_is d codes last new s code v dumped coded is =
     let same : v ≡ w.0 = (let e = sym is ∙ w.1 in cc) in
     ap (λ (u : Vector). u.bits) same ∙ w.2
 
-module _ (m : Made) (dump : BoundDump) (t : ℕ) (a : Replay) (x : Following) (at : IsDueAt (subject_of m dump) t a x) where
+module _ (m : Made) (dump : BoundDump) (t : ℕ) (kind : Bool) (a : Replay) (x : Following) (at : IsDueAt (subject_of m dump) t kind a x) where
   abbrev f : Subject
   f = subject_of m dump
 
@@ -163,11 +164,12 @@ module _ (m : Made) (dump : BoundDump) (t : ℕ) (a : Replay) (x : Following) (a
           refuted wakes early c.0 found begun.sets c.2 (dumped_is m.design m.codes x.parts.values.last (dump.values (suc t)) found.signal is.code found.dumped at.given.last is.coded is.dumped) is.differ
 
       -- the marks after the runs, and the masks before, are those with which the toggles are marked
-      pub is_over : (moving : List ℕ) (end : ℕ) → end ≡ suc t → moving ≡ wakes.moves → AreMarksOf m.points marks → IsOver (step wakes early) m.points moving end last w x.parts.seen marks
+      pub is_over : (moving : List ℕ) (end : ℕ) → end ≡ suc t → moving ≡ wakes.moves → AreMarksOf m.points marks → IsOver (step wakes early) m.points moving end kind last w x.parts.seen marks
       is_over moving end time same of = record {
         values = over.values;
         moves = λ s i. over.moves s ∙ subst (λ ys. is_in ys s ≡ true) same i;
         time = sym time;
+        kind = at.kind;
         machines = at.follows.parts.subject.machines;
         listed = at.follows.parts.subject.listed;
         marks = of;
@@ -177,22 +179,23 @@ module _ (m : Made) (dump : BoundDump) (t : ℕ) (a : Replay) (x : Following) (a
       }
 
       -- those after the runs are those with which the machines are marked
-      pub machines_over : (moving : List ℕ) (end : ℕ) → end ≡ suc t → moving ≡ wakes.moves → IsMachineStep (step wakes early) moving end last w
+      pub machines_over : (moving : List ℕ) (end : ℕ) → end ≡ suc t → moving ≡ wakes.moves → IsMachineStep (step wakes early) moving end kind last w
       machines_over moving end time same = record {
         values = over.values;
         moves = λ s. over.moves s ∙ ap (λ ys. is_in ys s) (sym same);
         time = sym time;
+        kind = at.kind;
       }
 
       -- where nothing was found, and the toggles and the machines are marked, the dump is followed up to the end of the step
       pub followed : (y : Following) (middle : Marks) → y.parts.sets ≡ wakes → y.parts.store ≡ last → y.parts.acted ≡ flags → y.parts.values.closed ≡ x.parts.values.last → IsOfDesign m.design (flags_of m.codes) y.parts.sets → HasWriters m.design m.codes y.parts.sets
           → ((c : Cell) → contradicts (step wakes early) c ≡ false) → MarksInTurn (step wakes early) m.points wakes.moves marks.verdicts middle.verdicts → IsSeenAfter (step wakes early) m.points y.parts.seen middle
-          → AreMarksOf m.points y.parts.marks → MarksMachines (step wakes early) m.points x.parts.told middle.verdicts y.parts.marks.verdicts
+          → AreMarksOf m.points y.parts.marks → MarksMachines (step wakes early) m.points (not kind || x.parts.told) middle.verdicts y.parts.marks.verdicts → y.parts.told ≡ kind
           → HasWords m.design (all_run (step wakes early)).kept y.ranges y.words → (b : Replay) × HasFollows f (suc t) b y
-      followed y middle sets store acted values of writers none turns seen marked machines words = (
+      followed y middle sets store acted values of writers none turns seen marked machines told_is words = (
         next_replay f t a x.parts y.parts.sets early,
         record {
-          parts = closes f t a x.parts y.parts early at.follows.parts at.given at.window at.listed first of (subst (λ b. AreWritersOf m.design b y.parts.sets.tables.things y.parts.sets.writers) (sym (fun_ext at.follows.parts.subject.bound)) writers) nothing values rest told;
+          parts = closes f t a x.parts y.parts early at.follows.parts at.given at.window first of (subst (λ b. AreWritersOf m.design b y.parts.sets.tables.things y.parts.sets.writers) (sym (fun_ext at.follows.parts.subject.bound)) writers) nothing values rest told;
           words = subst (λ ws. HasWords m.design (all_run (step ws early)).kept y.ranges y.words) (sym sets) words;
         },
       )
@@ -203,12 +206,15 @@ module _ (m : Made) (dump : BoundDump) (t : ℕ) (a : Replay) (x : Following) (a
           nothing : (c : Cell) → contradicts (step y.parts.sets early) c ≡ false
           nothing = subst (λ ws. (c : Cell) → contradicts (step ws early) c ≡ false) (sym sets) none
 
-          both : AtRest m.design m.points (next_replay f t a x.parts wakes early) last flags y.parts.marks y.parts.seen × AreTold m.design m.points (next_replay f t a x.parts wakes early)
+          by_kind : MarksMachines (step wakes early) m.points (not (is_listed dump (suc t)) || x.parts.told) middle.verdicts y.parts.marks.verdicts
+          by_kind = subst (λ b. MarksMachines (step wakes early) m.points (not b || x.parts.told) middle.verdicts y.parts.marks.verdicts) (sym at.kind) machines
+
+          both : AtRest m.design m.points (next_replay f t a x.parts wakes early) last flags y.parts.marks y.parts.seen × (is_listed dump (suc t) ≡ true → AreTold m.design m.points (next_replay f t a x.parts wakes early))
           both =
-              marking.closes (step wakes early) at.follows.parts.subject.machines m.points x.parts.told last w wakes flags marks middle y.parts.marks y.parts.seen due_step.changes.lawful at.follows.parts.subject.listed at.follows.parts.subject.once over at.follows.parts.told turns seen marked machines
+              marking.closes (step wakes early) at.follows.parts.subject.machines m.points x.parts.told last w wakes flags marks middle y.parts.marks y.parts.seen due_step.changes.lawful at.follows.parts.subject.listed at.follows.parts.subject.once over at.follows.parts.told turns seen marked by_kind
 
           told : y.parts.told ≡ true → AreTold m.design m.points (next_replay f t a x.parts y.parts.sets early)
-          told e = subst (λ ws. AreTold m.design m.points (next_replay f t a x.parts ws early)) (sym sets) both.1
+          told e = subst (λ ws. AreTold m.design m.points (next_replay f t a x.parts ws early)) (sym sets) (both.1 (at.kind ∙ sym told_is ∙ e))
 
           rest : AtRest m.design m.points (next_replay f t a x.parts y.parts.sets early) y.parts.store y.parts.acted y.parts.marks y.parts.seen
           rest =

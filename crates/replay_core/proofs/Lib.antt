@@ -1,4 +1,5 @@
 pub mod Codes
+pub mod Inputs
 pub mod Orders
 pub mod Given
 pub mod Untouched
@@ -10,5 +11,7 @@ pub mod Woken
 pub mod Starting
 pub mod Changes
 pub mod Ends
+pub mod Missing
 pub mod Stepping
 pub mod ClosingStep
+pub mod Resting

@@ -52,12 +52,12 @@ module _ (d : Design) (h : Habit) (points : Points) (x : ReplayTables) (replayab
     is = record {
       lawful = replayable.lawful;
       fits = of.fits;
+      rounds = of.rounds;
       runs = runs;
       tabled = subst (λ bound. AreTables d bound m.tables) (sym (fun_ext of.bound)) fits.tabled;
       toggles = λ s i rise at. (replayable.listed.members (toggle_point s i rise)).0 at;
       arcs = λ i name s from to y z at. arcs_apart d replayable.machines points i name s from to y z replayable.listed at;
     };
-    rounds = of.rounds;
     wakes = replayable.own_wakes;
     machines = replayable.machines;
     listed = replayable.listed;

@@ -1,5 +1,5 @@
 -- A closing step of each dump that was followed up to it, from the parts before it to those after it.
-use Rattle.std.proofs.Common.{◌≡◌, ◌↔◌, ◌∙◌, ◌+◌, ◌<◌, ℕ, suc, Bool, true, ◌++◌, List, flat_map, length, map, Option, Some, inl, inr, refl, sym, ap, subst, arith}
+use Rattle.std.proofs.Common.{◌≡◌, ◌↔◌, ◌∙◌, ◌+◌, ◌<◌, ◌||◌, not, ℕ, suc, Bool, true, ◌++◌, List, flat_map, length, map, Option, Some, inl, inr, refl, sym, ap, subst, arith}
 use Rattle.std.specs.Prelude.{filter}
 use Rattle.std.specs.List.{All}
 use Rattle.std.proofs.lemmas.List.{length-append, length-map}
@@ -123,13 +123,13 @@ module _ (d : Design) (habit : Habit) (points : Points) (x : ReplayTables) (r : 
     pub followed : (p y : ℕ) → In y (row_at x.processes.watched p) → is_memory d y ≡ true → FollowsAll d v y
     pub ranges : u.notes.written.ranges ≡ s.notes.written.ranges
 
-  module _ (n : StepRoom) (time : ℕ) (q : ReplayRoom) (u : ReplayState) (v : WrittenState) (has : HasRunClocked n time q u v) where
+  module _ (n : StepRoom) (time : ℕ) (kind : Bool) (q : ReplayRoom) (u : ReplayState) (v : WrittenState) (has : HasRunClocked n time q u v) where
     abbrev early : ℕ → List ℕ
     early = has.early
 
-    module _ (dump : BoundDump) (t : ℕ) (a : Replay) (e : time ≡ suc t) (at : IsDueAt (subject_of m dump) t a before) where
+    module _ (dump : BoundDump) (t : ℕ) (a : Replay) (e : time ≡ suc t) (at : IsDueAt (subject_of m dump) t kind a before) where
       first : HasFound (due dump t a) (state_of n.sets) early (clocked_in n) n.values
-      first = has.found (due dump t a) early (due_step m dump t a before at) has.chosen
+      first = has.found (due dump t a) early (due_step m dump t kind a before at) has.chosen
 
       has_found : HasFound (due dump t a) (state_of q.step.sets) early (clocked_in n) q.step.values
       has_found =
@@ -139,27 +139,27 @@ module _ (d : Design) (habit : Habit) (points : Points) (x : ReplayTables) (r : 
       clocked_run_is : HaveClockedRun (due dump t a) (state_of q.step.sets) early q.ran.items u.store u.notes.marks
       clocked_run_is =
           let st = step_of (due dump t a) (state_of n.sets) early in
-          let is = clocked_step m dump t a before at (state_of n.sets) early (clocked_in n) n.values first time e in
-          let are = clocked_of m dump t a before at (state_of n.sets) early (clocked_in n) n.values first in
+          let is = clocked_step m dump t kind a before at (state_of n.sets) early (clocked_in n) n.values first time e in
+          let are = clocked_of m dump t kind a before at (state_of n.sets) early (clocked_in n) n.values first in
           let start = at.follows.parts.rest in
           run_early (due dump t a) early q.ran.items u.store u.notes.marks (state_of n.sets) (state_of q.step.sets) has.rest
-          (have_run m dump t a before at (state_of n.sets) early (clocked_in n) n.values first q.ran.items u.store u.notes.marks has.members has.marked
+          (have_run m dump t kind a before at (state_of n.sets) early (clocked_in n) n.values first q.ran.items u.store u.notes.marks has.members has.marked
           (has.knows st is are start.knows start.marks) (has.marks st is are start.knows start.marks))
 
       -- the words once the Clocked have run
       words_left : HasWords m.design (left_by_clocked (step_of (due dump t a) (state_of q.step.sets) early)) s.notes.written.ranges q.words
       words_left =
           let st = step_of (due dump t a) (state_of n.sets) early in
-          let is = clocked_step m dump t a before at (state_of n.sets) early (clocked_in n) n.values first time e in
-          let are = clocked_of m dump t a before at (state_of n.sets) early (clocked_in n) n.values first in
+          let is = clocked_step m dump t kind a before at (state_of n.sets) early (clocked_in n) n.values first time e in
+          let are = clocked_of m dump t kind a before at (state_of n.sets) early (clocked_in n) n.values first in
           let start = at.follows.parts.rest in
           subst (λ ws. HasWords m.design (left_by_clocked (step_of (due dump t a) ws early)) s.notes.written.ranges q.words) (sym has.rest) (has.words st is are start.knows start.marks at.follows.words)
 
       words_changed : HasWordChanges (step_of (due dump t a) (state_of q.step.sets) early) (left_by_clocked (step_of (due dump t a) (state_of q.step.sets) early)) q.words
       words_changed =
           let st = step_of (due dump t a) (state_of n.sets) early in
-          let is = clocked_step m dump t a before at (state_of n.sets) early (clocked_in n) n.values first time e in
-          let are = clocked_of m dump t a before at (state_of n.sets) early (clocked_in n) n.values first in
+          let is = clocked_step m dump t kind a before at (state_of n.sets) early (clocked_in n) n.values first time e in
+          let are = clocked_of m dump t kind a before at (state_of n.sets) early (clocked_in n) n.values first in
           let start = at.follows.parts.rest in
           subst (λ ws. HasWordChanges (step_of (due dump t a) ws early) (left_by_clocked (step_of (due dump t a) ws early)) q.words) (sym has.rest)
           (watched_changes st (left_by_clocked st) v q.words has.followed (has.changes st is are start.knows start.marks at.follows.words))
@@ -167,26 +167,26 @@ module _ (d : Design) (habit : Habit) (points : Points) (x : ReplayTables) (r : 
       ran_sensitive : (p : ℕ) → In p q.ran.items → In p m.tables.clocked × IsSensitive m.design dump (suc t) p
       ran_sensitive p i =
           let both = (has.members p).0 i in
-          woken_sensitive m dump t a before at (state_of n.sets) early (clocked_in n) n.values first p both.0 both.1
+          woken_sensitive m dump t kind a before at (state_of n.sets) early (clocked_in n) n.values first p both.0 both.1
 
     -- something holds of each step that is due, of what is early and of the marks
     abbrev ForStep : (Due → (ℕ → List ℕ) → Marks → Type 0) → Type 0
-    ForStep holds = (dump : BoundDump) (t : ℕ) (a : Replay) → time ≡ suc t → IsDueAt (subject_of m dump) t a before → holds (due dump t a) early u.notes.marks
+    ForStep holds = (dump : BoundDump) (t : ℕ) (a : Replay) → time ≡ suc t → IsDueAt (subject_of m dump) t kind a before → holds (due dump t a) early u.notes.marks
 
     -- what holds of each step whose Clocked have run holds of each that is due
     pub for_step : (P : Due → (ℕ → List ℕ) → Marks → Type 0) (given : Values) (ran : List ℕ) → given ≡ s.values → ran ≡ q.ran.items → ForRun x.step given q.step ran u.store P → ForStep P
     for_step P given ran same are each = λ dump t a e at.
         let one = subst (λ ps. ForRun x.step given q.step ps u.store P) are each in
         let two = subst (λ vs. ForRun x.step vs q.step q.ran.items u.store P) same one in
-        two (due dump t a) early (state_of r.step.sets) (clocked_in n) s.store u.notes.marks (due_step m dump t a before at) (has_found dump t a e at) (clocked_run_is dump t a e at)
+        two (due dump t a) early (state_of r.step.sets) (clocked_in n) s.store u.notes.marks (due_step m dump t kind a before at) (has_found dump t a e at) (clocked_run_is dump t a e at)
 
     -- a signal that contradicts the step before the Assigns and Combs run refutes each dump
     pub refutes_begun : (k : StepRoom) (one : Difference) → ForStep (λ o early marks. IsContradicted o (state_of k.sets) early one)
-        → ForStep (λ o early marks. IsLeastMoved (step_of o (state_of k.sets) early) k.changed.items k.overwritten.items (Some one)) → Refutes m time before one
-    refutes_begun k one differs least = λ dump t a e at. begun_refuted m dump t a before at (state_of k.sets) early k.changed.items k.overwritten.items one (differs dump t a e at) (least dump t a e at)
+        → ForStep (λ o early marks. IsLeastMoved (step_of o (state_of k.sets) early) k.changed.items k.overwritten.items (Some one)) → Refutes m time kind before one
+    refutes_begun k one differs least = λ dump t a e at. begun_refuted m dump t kind a before at (state_of k.sets) early k.changed.items k.overwritten.items one (differs dump t a e at) (least dump t a e at)
 
     -- each Clocked that ran runs once
-    pub counts_clocked : (from to : ℕ) → to ≡ from + length q.ran.items → Counts m time before from to
+    pub counts_clocked : (from to : ℕ) → to ≡ from + length q.ran.items → Counts m time kind before from to
     counts_clocked from to is = λ dump t a e at. record {
       processes = q.ran.items;
       once = has.once;
@@ -196,17 +196,17 @@ module _ (d : Design) (habit : Habit) (points : Points) (x : ReplayTables) (r : 
 
     module _ (k : StepRoom) (store : Store) (tables : FitsTables d x) (changed : AreChangedSignals x.step.codes.items s.values k.changed.items) (begun : ForStep (λ o early marks. HasBegun o (state_of k.sets) early (listed_of k) k.values store marks)) where
       -- and so does each process of the list
-      pub counts_run : (from to : ℕ) → to ≡ from + (length q.ran.items + length (listed_of k)) → Counts m time before from to
+      pub counts_run : (from to : ℕ) → to ≡ from + (length q.ran.items + length (listed_of k)) → Counts m time kind before from to
       counts_run from to is = λ dump t a e at.
           let start = begun dump t a e at in
           let clocked : (p : ℕ) → In p q.ran.items → In p m.tables.clocked × IsSensitive m.design dump (suc t) p = ran_sensitive dump t a e at in
-          let others : (p : ℕ) → In p (listed_of k) → In p (m.tables.order ++ m.tables.last) × IsSensitive m.design dump (suc t) p = listed_sensitive m dump t a before at (state_of k.sets) early (listed_of k) k.values store u.notes.marks start in
+          let others : (p : ℕ) → In p (listed_of k) → In p (m.tables.order ++ m.tables.last) × IsSensitive m.design dump (suc t) p = listed_sensitive m dump t kind a before at (state_of k.sets) early (listed_of k) k.values store u.notes.marks start in
           let apart = distinct_apart m.tables.clocked (m.tables.order ++ m.tables.last) tables.tabled.once in
           let all = q.ran.items ++ listed_of k in
           record {
             processes = all;
             once =
-                distinct_both q.ran.items (listed_of k) has.once (listed_distinct m dump t a before at (state_of k.sets) early (listed_of k) k.values store u.notes.marks start)
+                distinct_both q.ran.items (listed_of k) has.once (listed_distinct m dump t kind a before at (state_of k.sets) early (listed_of k) k.values store u.notes.marks start)
                 (λ p i j. apart p (clocked p i).0 (others p j).0);
             sensitive = all_of (IsSensitive d dump (suc t)) all (λ p i. elim (in_either p q.ran.items (listed_of k) (contains_in p all i)) [
               | inl one ↦ (clocked p one).1
@@ -225,7 +225,7 @@ module _ (d : Design) (habit : Habit) (points : Points) (x : ReplayTables) (r : 
             → AtStep st ps (all_run st) z.store w.step.values (state_of w.step.sets) z.acted.items z.notes.marks
 
         module _ (laws : WordsLaw) (settled : k.sets ≡ q.step.sets) (acted : u.acted.items ≡ s.acted.items) (same : w.step.sets ≡ k.sets) (noted : u.notes.points.now ≡ points) (run : RunsFor u.notes.points.now) (ran : w.ran.items ≡ listed_of k) where
-          module _ (dump : BoundDump) (t : ℕ) (a : Replay) (e : time ≡ suc t) (at : IsDueAt (subject_of m dump) t a before) where
+          module _ (dump : BoundDump) (t : ℕ) (a : Replay) (e : time ≡ suc t) (at : IsDueAt (subject_of m dump) t kind a before) where
             abbrev st : Closing
             st = step_of (due dump t a) (state_of k.sets) early
 
@@ -233,52 +233,54 @@ module _ (d : Design) (habit : Habit) (points : Points) (x : ReplayTables) (r : 
             start = begun dump t a e at
 
             lawful : IsLawfulDesign d
-            lawful = (due_step m dump t a before at).changes.lawful
+            lawful = (due_step m dump t kind a before at).changes.lawful
 
             words_now : HasWordChanges st (settle_start st (clocked_run st)).kept q.words
             words_now =
-                laws st q.words lawful (due_step m dump t a before at).tabled
+                laws st q.words lawful (due_step m dump t kind a before at).tabled
                 (subst (λ ws. HasWordChanges (step_of (due dump t a) (state_of ws) early) (left_by_clocked (step_of (due dump t a) (state_of ws) early)) q.words) (sym settled) (words_changed dump t a e at))
 
             over : AtStep st points (all_run st) z.store w.step.values (state_of k.sets) z.acted.items z.notes.marks
             over = subst (λ ws. AtStep st points (all_run st) z.store w.step.values (state_of ws) z.acted.items z.notes.marks) same (subst RunsFor noted run st
                 (subst (IsRunOf st points x.step.order (length x.processes.order.items) (listed_of k) x.wakes x.step.codes.items k.changed.items) (sym e)
-                (run_is m dump t a before at (state_of k.sets) early (listed_of k) k.values store u.notes.marks start (length x.processes.order.items) x.processes.watched x.wakes k.changed.items refl (λ p. refl) tables.wakes changed))
+                (run_is m dump t kind a before at (state_of k.sets) early (listed_of k) k.values store u.notes.marks start (length x.processes.order.items) x.processes.watched x.wakes k.changed.items refl (λ p. refl) tables.wakes changed))
                 words_now
                 (subst (λ fs. AtStep st points (settle_start st (clocked_run st)) store k.values (state_of k.sets) fs u.notes.marks) (sym acted) start.parts))
 
             runs_over : HasRun st w.ran.items x.step.targets x.checks x.step.codes.items s.values.last z.store w.step.values
             runs_over =
-                has_run m dump t a before at (state_of k.sets) early (listed_of k) k.values store u.notes.marks start z.store w.step.values z.acted.items z.notes.marks over w.ran.items x.step.targets x.checks ran tables.rows.targets tables.checks
+                has_run m dump t kind a before at (state_of k.sets) early (listed_of k) k.values store u.notes.marks start z.store w.step.values z.acted.items z.notes.marks over w.ran.items x.step.targets x.checks ran tables.rows.targets tables.checks
 
           -- a signal of which something else was made than what the dump says refutes each dump
-          pub refutes_run : (one : Difference) → IsFirstDifference x.step.codes.items s.values.last w.step.values.made (last_of_each (flat_map (row_at x.checks) w.ran.items)) one → Refutes m time before one
+          pub refutes_run : (one : Difference) → IsFirstDifference x.step.codes.items s.values.last w.step.values.made (last_of_each (flat_map (row_at x.checks) w.ran.items)) one → Refutes m time kind before one
           refutes_run one differs = λ dump t a e at.
-              run_refuted m dump t a before at (state_of k.sets) early (listed_of k) k.values store u.notes.marks (start dump t a e at) z.store w.step.values z.acted.items z.notes.marks (over dump t a e at)
+              run_refuted m dump t kind a before at (state_of k.sets) early (listed_of k) k.values store u.notes.marks (start dump t a e at) z.store w.step.values z.acted.items z.notes.marks (over dump t a e at)
               w.ran.items x.step.targets x.checks one (runs_over dump t a e at) differs
 
           -- where there is none, and the toggles and the machines are marked, each dump is followed up to the end of the step
           pub closes_run : (y : ReplayState) (middle : Marks) (moves : List ℕ) → All (AgreesAt x.step.codes.items s.values.last w.step.values.made) (last_of_each (flat_map (row_at x.checks) w.ran.items))
               → moves ≡ (state_of k.sets).moves → IsOfDesign d (flags_of x.step.codes.items) (state_of w.step.sets) → HasWriters d x.step.codes.items (state_of w.step.sets) → AreMarksOf points z.notes.marks
               → y.store ≡ z.store → y.acted.items ≡ z.acted.items → y.values.closed ≡ s.values.last → KeptWordsLaw → w.words ≡ q.words → y.notes.written.ranges ≡ s.notes.written.ranges
-              → ((st : Closing) → IsOver st points moves time z.store w.step.values s.seen z.notes.marks → MarksInTurn st points moves z.notes.marks.verdicts middle.verdicts)
-              → ((st : Closing) → IsOver st points moves time z.store w.step.values s.seen z.notes.marks → IsSeenAfter st points y.seen middle)
-              → AreMarksOf points y.notes.marks → ((st : Closing) → IsMachineStep st moves time z.store w.step.values → MarksMachines st points s.machines.told middle.verdicts y.notes.marks.verdicts)
-              → Closes m time before (parts_with w y)
-          closes_run y middle moves agree moving of writers marks stored flags closed stay words ranges turns seen marked machines = λ dump t a e at.
+              → ((st : Closing) → IsOver st points moves time kind z.store w.step.values s.seen z.notes.marks → MarksInTurn st points moves z.notes.marks.verdicts middle.verdicts)
+              → ((st : Closing) → IsOver st points moves time kind z.store w.step.values s.seen z.notes.marks → IsSeenAfter st points y.seen middle)
+              → AreMarksOf points y.notes.marks → ((st : Closing) → IsMachineStep st moves time kind z.store w.step.values → MarksMachines st points (not kind || s.machines.told) middle.verdicts y.notes.marks.verdicts)
+              → y.machines.told ≡ kind
+              → Closes m time kind before (parts_with w y)
+          closes_run y middle moves agree moving of writers marks stored flags closed stay words ranges turns seen marked machines told = λ dump t a e at.
               let now = state_of k.sets in
               let one = step_of (due dump t a) now early in
               let begins = start dump t a e at in
               let ends = over dump t a e at in
-              let last = is_over m dump t a before at now early (listed_of k) k.values store u.notes.marks begins z.store w.step.values z.acted.items z.notes.marks ends moves time e moving marks in
-              followed m dump t a before at now early (listed_of k) k.values store u.notes.marks begins z.store w.step.values z.acted.items z.notes.marks ends (parts_with w y) middle (ap state_of same) stored flags closed of writers
+              let last = is_over m dump t kind a before at now early (listed_of k) k.values store u.notes.marks begins z.store w.step.values z.acted.items z.notes.marks ends moves time e moving marks in
+              followed m dump t kind a before at now early (listed_of k) k.values store u.notes.marks begins z.store w.step.values z.acted.items z.notes.marks ends (parts_with w y) middle (ap state_of same) stored flags closed of writers
               (agree_law one w.ran.items x.step.targets x.checks x.step.codes.items s.values.last z.store w.step.values (runs_over dump t a e at) agree)
               (subst (λ ms. MarksInTurn one points ms z.notes.marks.verdicts middle.verdicts) moving (turns one last))
               (seen one last)
               marked
-              (machines one (machines_over m dump t a before at now early (listed_of k) k.values store u.notes.marks begins z.store w.step.values z.acted.items z.notes.marks ends moves time e moving))
+              (machines one (machines_over m dump t kind a before at now early (listed_of k) k.values store u.notes.marks begins z.store w.step.values z.acted.items z.notes.marks ends moves time e moving))
+              told
               (subst (λ rs. HasWords d (all_run one).kept rs w.words) (sym ranges) (subst (HasWords d (all_run one).kept s.notes.written.ranges) (sym words)
-              (words_stay d (left_by_clocked one) (all_run one).kept s.notes.written.ranges q.words (λ c is. stay one c (lawful dump t a e at) (due_step m dump t a before at).tabled is)
+              (words_stay d (left_by_clocked one) (all_run one).kept s.notes.written.ranges q.words (λ c is. stay one c (lawful dump t a e at) (due_step m dump t kind a before at).tabled is)
               (subst (λ ws. HasWords d (left_by_clocked (step_of (due dump t a) (state_of ws) early)) s.notes.written.ranges q.words) (sym settled) (words_left dump t a e at)))))
 
 -- ---- the parts fit

@@ -48,7 +48,7 @@ there_is (Some s) e = (s, refl)
 
 -- ---- a step that is due
 
-module _ (m : Made) (dump : BoundDump) (t : ℕ) (a : Replay) (x : Following) (at : IsDueAt (subject_of m dump) t a x) (wakes : WakeState) (early : ℕ → List ℕ) (listed : List ℕ) (v : StepVectors)
+module _ (m : Made) (dump : BoundDump) (t : ℕ) (kind : Bool) (a : Replay) (x : Following) (at : IsDueAt (subject_of m dump) t kind a x) (wakes : WakeState) (early : ℕ → List ℕ) (listed : List ℕ) (v : StepVectors)
     (found : HasFound (due_at (subject_of m dump) t a x.parts) wakes early listed v) where
   abbrev due : Due
   due = due_at (subject_of m dump) t a x.parts
@@ -58,12 +58,12 @@ module _ (m : Made) (dump : BoundDump) (t : ℕ) (a : Replay) (x : Following) (a
 
   -- what is listed is a Clocked that runs
   listed_run : (p : ℕ) → In p listed ↔ (In p m.tables.clocked × (Rattle.step_start.specs.step_parts.clocked_laws.Clocked.is_running st p ≡ true))
-  listed_run = listed_are due m.codes m.ranks m.clocked_ranks x.parts.sets wakes x.parts.values x.parts.store early listed v (due_step m dump t a x at) found
+  listed_run = listed_are due m.codes m.ranks m.clocked_ranks x.parts.sets wakes x.parts.values x.parts.store early listed v (due_step m dump t kind a x at) found
 
   -- it is the step that its Clocked run in
   pub clocked_step : (time : ℕ) → time ≡ suc t → IsClockedStep st m.points wakes m.habit m.codes x.parts.values time
   clocked_step time same =
-      let is = due_step m dump t a x at in
+      let is = due_step m dump t kind a x at in
       let before : suc t - 1 ≡ t = omega arith in
       record {
         apart = at.follows.parts.subject.apart;

@@ -1,39 +1,40 @@
 -- What the first step and a closing step do to the parts of a replay.
-use Rattle.std.specs.Prelude.{◌≡◌, ℕ, suc}
+use Rattle.std.specs.Prelude.{◌≡◌, ℕ, Bool, suc}
 use Rattle.code_values.specs.Values.{Values}
-use Rattle.design_model.specs.Shows.{BoundDump, IsFirst, IsListed, IsShown, IsWindow}
+use Rattle.design_model.specs.Shows.{BoundDump, IsFirst, IsShown, IsWindow}
 use Rattle.dump_check.specs.declared.order.Difference.{Difference}
 use Rattle.replay_follows.specs.Follows.{Subject}
 use Rattle.replay_follows.specs.Laws.{AreGiven}
 use Rattle.replay_model.specs.Step.{Replay}
+use Rattle.hidden_times.specs.Hidden.{is_listed}
 use Rattle.first_step.specs.step_values.Dumped.{AreDumped}
 use Rattle.wake_laws.specs.Laws.{habit_of}
 use Rattle.replay_core.specs.Faults.{IsRefuted}
 use Rattle.replay_core.specs.Made.{Following, HasFollows, IsDumpFor, Made, subject_of}
 use Rattle.replay_core.specs.Steps.{CountsSensitive}
 
--- the parts have followed the dump up to a time, and the next step is to be closed
-pub record IsDueAt (f : Subject) (t : ℕ) (a : Replay) (x : Following) : Type 0 where
+-- the parts have followed the dump up to a time, and the next step is to be closed, at a time that is listed or not
+pub record IsDueAt (f : Subject) (t : ℕ) (listed : Bool) (a : Replay) (x : Following) : Type 0 where
   pub follows : HasFollows f t a x
   pub given : AreGiven f x.parts (suc t)
   pub window : IsWindow f.dump (suc t)
-  pub listed : IsListed f.dump (suc t)
+  pub kind : is_listed f.dump (suc t) ≡ listed
 
 -- a fact of each dump of which the step that ends at this time is to be closed
-abbrev pub ForDue : Made → ℕ → Following → (BoundDump → ℕ → Type 0) → Type 0
-ForDue m end x holds = (dump : BoundDump) (t : ℕ) (a : Replay) → end ≡ suc t → IsDueAt (subject_of m dump) t a x → holds dump (suc t)
+abbrev pub ForDue : Made → ℕ → Bool → Following → (BoundDump → ℕ → Type 0) → Type 0
+ForDue m end listed x holds = (dump : BoundDump) (t : ℕ) (a : Replay) → end ≡ suc t → IsDueAt (subject_of m dump) t listed a x → holds dump (suc t)
 
 -- after the step the parts have followed each such dump up to its end
-abbrev pub Closes : Made → ℕ → Following → Following → Type 0
-Closes m end x y = ForDue m end x (λ dump t. (b : Replay) × HasFollows (subject_of m dump) t b y)
+abbrev pub Closes : Made → ℕ → Bool → Following → Following → Type 0
+Closes m end listed x y = ForDue m end listed x (λ dump t. (b : Replay) × HasFollows (subject_of m dump) t b y)
 
 -- what was found refutes each such dump
-abbrev pub Refutes : Made → ℕ → Following → Difference → Type 0
-Refutes m end x found = ForDue m end x (λ dump t. IsRefuted m.design (habit_of m.habit) dump t found.signal found.dumped found.computed.bits)
+abbrev pub Refutes : Made → ℕ → Bool → Following → Difference → Type 0
+Refutes m end listed x found = ForDue m end listed x (λ dump t. IsRefuted m.design (habit_of m.habit) dump t found.signal found.dumped found.computed.bits)
 
 -- so many bodies run in it
-abbrev pub Counts : Made → ℕ → Following → ℕ → ℕ → Type 0
-Counts m end x before after = ForDue m end x (λ dump t. CountsSensitive m.design dump t before after)
+abbrev pub Counts : Made → ℕ → Bool → Following → ℕ → ℕ → Type 0
+Counts m end listed x before after = ForDue m end listed x (λ dump t. CountsSensitive m.design dump t before after)
 
 -- a fact of each dump of which this is the first time, where it has these values
 abbrev pub ForFirst : Made → ℕ → Values → (BoundDump → Type 0) → Type 0

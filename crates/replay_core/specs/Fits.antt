@@ -1,5 +1,5 @@
 -- The parts of a replay fit its design: what is true of each replay, whatever the dump has given.
-use Rattle.std.specs.Prelude.{◌≡◌, ◌<◌, ◌≤◌, ◌+◌, ◌^◌, ◌++◌, ℕ, false, true, List, [], length, slice_index_or, Option, Some, None}
+use Rattle.std.specs.Prelude.{◌≡◌, ◌<◌, ◌≤◌, ◌+◌, ◌^◌, ◌++◌, ◌||◌, ◌↔◌, ℕ, Bool, false, true, not, List, [], length, slice_index_or, Option, Some, None}
 use Rattle.body_replay.specs.Store.{Kept}
 use Rattle.body_store.specs.Made.{nothing}
 use Rattle.code_values.specs.Values.{lacks_value, value_of}
@@ -7,7 +7,8 @@ use Rattle.cover_marks.specs.Marks.{AreMarksOf}
 use Rattle.cover_points.specs.Listed.{IsPointList}
 use Rattle.cover_points.specs.Visits.{AreApart, AreOnce}
 use Rattle.cover_points.specs.declared.listing.Points.{Points}
-use Rattle.design_model.specs.Design.{Design, In, is_memory, signal_at}
+use Rattle.design_model.specs.Design.{Design, In, is_memory, no_signal, signal_at}
+use Rattle.design_model.specs.declared.design.Signal.{Signal}
 use Rattle.design_model.specs.Lawful.{IsLawfulDesign}
 use Rattle.cover_points.specs.design_machines.state_machines.Machines.{StateMachines}
 use Rattle.early_sets.specs.WakeState.{WakeState, state_of}
@@ -52,6 +53,19 @@ pub record IsReplayable (d : Design) (points : Points) : Type 0 where
   pub apart : AreApart points
   pub once : AreOnce points
 
+-- the signal with this number is no input, or is bound, as its flag says
+abbrev pub is_bound_if_input : List Signal → List Bool → ℕ → Bool
+is_bound_if_input signals bound s = not (slice_index_or signals s no_signal).input || slice_index_or bound s false
+
+-- each input is bound
+abbrev pub HasInputs : List Signal → List Bool → Type 0
+HasInputs signals bound = (s : ℕ) → s < length signals → is_bound_if_input signals bound s ≡ true
+
+-- the signal with this number is an input that is not bound
+pub record IsUnbound (signals : List Signal) (bound : List Bool) (s : ℕ) : Type 0 where
+  pub listed : s < length signals
+  pub unbound : is_bound_if_input signals bound s ≡ false
+
 -- the tables are those of the design, with the signals bound that have a code
 pub record FitsTables (d : Design) (x : ReplayTables) : Type 0 where
   pub codes : length x.step.codes.items ≡ length d.signals
@@ -63,6 +77,7 @@ pub record FitsTables (d : Design) (x : ReplayTables) : Type 0 where
   pub rows : HasRows d x.step.targets x.step.written x.wakes
   pub wakes : AreWakeRows d x.processes.watched x.wakes
   pub checks : AreCheckRows x.step.codes.items x.step.targets x.checks
+  pub inputs : x.lacks_input ≡ false ↔ HasInputs d.signals (flags_of x.step.codes.items)
 
 -- each event signal with a code that one block writes at most once may become single
 abbrev pub HasWriters : Design → List (Option ℕ) → WakeState → Type 0

@@ -1,5 +1,5 @@
 -- A replay has followed a dump up to a time, and what its marks then say.
-use Rattle.std.specs.Prelude.{◌≡◌, ◌<◌, ℕ, List}
+use Rattle.std.specs.Prelude.{◌≡◌, ◌<◌, ℕ, suc, Bool, true, List}
 use Rattle.cover_marks.specs.Marks.{AreMarksOf}
 use Rattle.cover_marks.specs.declared.marks.Marks.{Marks}
 use Rattle.cover_points.specs.Listed.{points_of}
@@ -7,6 +7,7 @@ use Rattle.design_model.specs.Clear.{IsForced}
 use Rattle.design_model.specs.Design.{signal_bits}
 use Rattle.design_model.specs.Shows.{BoundDump, IsListed, IsWindow}
 use Rattle.four_state.specs.declared.bit.Bit.{Bit}
+use Rattle.hidden_times.specs.Hidden.{is_listed}
 use Rattle.first_step.specs.mark_laws.Marked.{AreVerdicts}
 use Rattle.replay_model.specs.Laws.{AreReasonedVerdicts, AreSoundVerdicts}
 use Rattle.replay_model.specs.Step as model
@@ -27,12 +28,21 @@ pub record HasFollowed (x : Replay) (dump : BoundDump) (t : ℕ) : Type 0 where
   pub replay : model.Replay
   pub follows : HasFollows (subject_of (made_of x) dump) t replay (parts_of x)
 
--- the step that ends at a time is the next one of the dump, before its last
-pub record IsNextStep (dump : BoundDump) (t end : ℕ) : Type 0 where
-  pub later : t < end
-  pub listed : IsListed dump end
+-- after this time the next one of the dump's window is this, which the dump lists or not
+pub record IsStepAt (dump : BoundDump) (t end : ℕ) (listed : Bool) : Type 0 where
+  pub next : end ≡ suc t
+  pub kind : is_listed dump end ≡ listed
   pub window : IsWindow dump end
-  pub between : (u : ℕ) → t < u → u < end → IsListed dump u → ⊥
+
+-- it lists it
+abbrev pub IsNextStep : BoundDump → ℕ → ℕ → Type 0
+IsNextStep dump t end = IsStepAt dump t end true
+
+-- one time is later than another, and those between are of the window, and the dump lists none of them
+pub record AreHidden (dump : BoundDump) (from time : ℕ) : Type 0 where
+  pub later : from < time
+  pub window : (u : ℕ) → from < u → u < time → IsWindow dump u
+  pub unlisted : (u : ℕ) → from < u → u < time → IsListed dump u → ⊥
 
 -- the marks of the points are verdicts that are sound and reasoned, and no value that is forced differs from the dump's
 pub record AreFinal (m : Made) (dump : BoundDump) (marks : Marks) : Type 0 where

@@ -4,13 +4,14 @@ use Rattle.body_replay.specs.Runs.{runs_of}
 use Rattle.cover_points.specs.declared.listing.Points.{Points}
 use Rattle.design_model.specs.Design.{Design}
 use Rattle.design_model.specs.MayMove.{AreLastRounds}
-use Rattle.design_model.specs.Shows.{BoundDump, IsDumpOf}
+use Rattle.design_model.specs.Shows.{BoundDump}
 use Rattle.early_sets.specs.WakeState.{state_of}
 use Rattle.early_sets.specs.declared.habit.Habit.{Habit}
 use Rattle.process_order.specs.Tables.{tables_of}
 use Rattle.replay_follows.specs.Follows.{Follows, Parts, Subject}
 use Rattle.replay_model.specs.Step.{Replay}
 use Rattle.replay_model.specs.Tables.{Tables}
+use Rattle.hidden_times.specs.Hidden.{IsAnyDumpOf}
 use Rattle.first_step.specs.step_values.Loose.{has_code}
 use Rattle.step_words.specs.Words.{HasWords, StepState}
 use Rattle.written_words.specs.declared.range.WordRange.{WordRange}
@@ -86,8 +87,8 @@ pub record HasFollows (f : Subject) (t : ℕ) (a : Replay) (x : Following) : Typ
   pub parts : Follows f t a x.parts
   pub words : HasWords f.design a.kept x.ranges x.words
 
--- a dump of the design that has the signals with a code, of which each step is judged by its last round
+-- a dump of the design, which may lack inputs, that has the signals with a code, of which each step is judged by its last round
 pub record IsDumpFor (m : Made) (dump : BoundDump) : Type 0 where
-  pub fits : IsDumpOf m.design dump
+  pub fits : IsAnyDumpOf m.design dump
   pub bound : (s : ℕ) → dump.bound s ≡ has_code m.codes s
   pub rounds : AreLastRounds m.design dump

@@ -1,4 +1,4 @@
-ghost use Rattle.std.specs.Prelude.{◌≡◌, ◌≤◌, ◌+◌, ◌↔◌, ◌<◌, [], ℕ, Err, IfErr, IfOk, IsFalse, None, OnOk, Some, false, length, slice_index_or, slice_set};
+ghost use Rattle.std.specs.Prelude.{◌≡◌, ◌≤◌, ◌+◌, ◌-◌, ◌↔◌, ◌<◌, [], ℕ, Err, IfErr, IfOk, IsFalse, None, OnOk, Some, false, length, slice_index_or, slice_set, suc};
 ghost use Rattle.code_values.specs.Values.{IsFirstMissing, value_of};
 ghost use Rattle.cover_marks.specs.Marks.{AreMarksOf};
 ghost use Rattle.cover_points.specs.Listed.{points_of};
@@ -14,7 +14,8 @@ ghost use Rattle.first_step.specs.mark_laws.Marked.{AreVerdicts};
 ghost use Rattle.replay_follows.specs.Laws.{IsLastStep};
 ghost use Rattle.wake_laws.specs.Laws.{habit_of};
 ghost use Rattle.replay_core.specs.Faults.{IsContradiction, fault_at, phase_after};
-ghost use Rattle.replay_core.specs.Fits.{HaveValues, IsReplayable, signal_of};
+ghost use Rattle.replay_core.specs.Codes.{flags_of};
+ghost use Rattle.replay_core.specs.Fits.{HasInputs, HaveValues, IsReplayable, signal_of};
 ghost use Rattle.replay_core.specs.Made.{IsDumpFor};
 ghost use Rattle.replay_core.specs.Steps.{CountsSensitive};
 ghost use Rattle.replay_core.specs.declared.fault.ReplayFault.{ReplayFault as TheFault};
@@ -69,7 +70,7 @@ impl Drop for Replay<'_> {
 }
 
 impl<'a> Replay<'a> {
-    ghost use Rattle.replay_core.specs.Followed.{AreFinal, AreGivenAt, HasFollowed, IsNextStep};
+    ghost use Rattle.replay_core.specs.Followed.{AreFinal, AreGivenAt, AreHidden, HasFollowed, IsNextStep, IsStepAt};
     ghost use Rattle.replay_core.specs.Parts.{HasRefused, IsNew, IsReady, IsStarted, given_of, made_of, without_sign};
 
     /// The replay of the dumps of a design whose inputs move by this habit, of which these are the points, and of which this is the code of
@@ -209,19 +210,50 @@ impl<'a> Replay<'a> {
         ensures steps { (dump : BoundDump) (t : ℕ) → HasFollowed self.old dump t → IsNextStep dump t time → AreGivenAt self.old dump time
             → CountsSensitive (made_of self.old).design dump time steps.old steps.new }
     {
-        if let Phase::Refused(fault) = self.phase {
-            return Err(fault);
+        self.close_at(time, true, steps)
+    }
+
+    /// Goes from a time of which the step is closed up to the one before a later time, where the dump lists none between them and has
+    /// given no value since. Where an input has no code and a time is between, one step is closed for all of them: it is the same
+    /// at each. The fault is that of the first of them. It takes no memory, and time for what may move while the dump lists nothing.
+    pub fn rest<L: Ledger>(
+        &mut self,
+        from: u64,
+        time: u64,
+        steps: &mut Steps<L>,
+    ) -> Result<(), ReplayFault>
+        requires ready { IsReady self.old }
+        requires started { IsNew self.old → ⊥ }
+        ensures ready { IsReady self.new }
+        ensures made { made_of self.new ≡ made_of self.old }
+        ensures values { given_of self.new ≡ given_of self.old }
+
+        ensures started { OnOk result (IsStarted self.old → IsStarted self.new) }
+        ensures followed { OnOk result ((dump : BoundDump) → HasFollowed self.old dump from → AreHidden dump from time → AreGivenAt self.old dump from → HasFollowed self.new dump (time - 1)) }
+
+        ensures refused { IfErr result (HasRefused self.new) }
+        ensures contradiction { IfErr result (λ fault. (dump : BoundDump) → HasFollowed self.old dump from → AreHidden dump from time → AreGivenAt self.old dump from
+            → (suc from < time) × IsContradiction (made_of self.old).design (habit_of (made_of self.old).habit) dump (suc from) fault) }
+        ensures again { (fault : TheFault) → HasRefused self.old fault → IfErr result (λ now. now ≡ fault) × (self.new ≡ self.old) }
+        ensures named { IfErr result (λ fault. signal_of fault < length (made_of self.old).design.signals) }
+
+        ensures steps { (dump : BoundDump) → HasFollowed self.old dump from → AreHidden dump from time → AreGivenAt self.old dump from
+            → CountsSensitive (made_of self.old).design dump (suc from) steps.old steps.new }
+        ensures none { HasInputs (made_of self.old).design.signals (flags_of (made_of self.old).codes) → steps.new ≡ steps.old }
+        ensures next { suc from ≡ time → steps.new ≡ steps.old }
+    {
+        if time <= from {
+            return Ok(());
         }
-        let found = run_step(
-            self.design,
-            self.habit,
-            &self.tables,
-            &mut self.room,
-            &mut self.state,
-            time,
-            steps,
-        );
-        self.end(found, time)
+        let first = from + 1;
+        if first == time {
+            return Ok(());
+        }
+        let lacks = self.tables.lacks_input;
+        if !lacks {
+            return Ok(());
+        }
+        self.close_at(first, false, steps)
     }
 
     /// The marks of the points. Where no step of the dump's window is left, they are its verdicts.
@@ -241,6 +273,44 @@ impl<'a> Replay<'a> {
         } = self;
         let notes = state.notes;
         notes.marks
+    }
+
+    /// Closes a later step, which ends at this time, that the dump lists or not.
+    fn close_at<L: Ledger>(
+        &mut self,
+        time: u64,
+        listed: bool,
+        steps: &mut Steps<L>,
+    ) -> Result<(), ReplayFault>
+        requires ready { IsReady self.old }
+        requires started { IsNew self.old → ⊥ }
+        ensures ready { IsReady self.new }
+        ensures made { made_of self.new ≡ made_of self.old }
+        ensures values { given_of self.new ≡ given_of self.old }
+        ensures started { OnOk result (IsStarted self.new) }
+        ensures followed { OnOk result ((dump : BoundDump) (t : ℕ) → HasFollowed self.old dump t → IsStepAt dump t time listed → AreGivenAt self.old dump time → HasFollowed self.new dump time) }
+        ensures refused { IfErr result (HasRefused self.new) }
+        ensures contradiction { IfErr result (λ fault. (dump : BoundDump) (t : ℕ) → HasFollowed self.old dump t → IsStepAt dump t time listed → AreGivenAt self.old dump time
+            → IsContradiction (made_of self.old).design (habit_of (made_of self.old).habit) dump time fault) }
+        ensures again { (fault : TheFault) → HasRefused self.old fault → (result ≡ Err fault) × (self.new ≡ self.old) }
+        ensures named { IfErr result (λ fault. signal_of fault < length (made_of self.old).design.signals) }
+        ensures steps { (dump : BoundDump) (t : ℕ) → HasFollowed self.old dump t → IsStepAt dump t time listed → AreGivenAt self.old dump time
+            → CountsSensitive (made_of self.old).design dump time steps.old steps.new }
+    {
+        if let Phase::Refused(fault) = self.phase {
+            return Err(fault);
+        }
+        let found = run_step(
+            self.design,
+            self.habit,
+            &self.tables,
+            &mut self.room,
+            &mut self.state,
+            time,
+            listed,
+            steps,
+        );
+        self.end(found, time)
     }
 
     /// Ends a step: it is refused where there is a difference.

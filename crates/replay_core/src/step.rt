@@ -1,6 +1,6 @@
 //! A closing step.
 
-ghost use Rattle.std.specs.Prelude.{◌≡◌, ◌<◌, [], IfNone, IfSome, List, flat_map, length, true};
+ghost use Rattle.std.specs.Prelude.{◌≡◌, ◌<◌, ◌||◌, [], IfNone, IfSome, List, flat_map, length, not};
 ghost use Rattle.std.specs.List.{All};
 ghost use Rattle.body_replay.specs.Store.{Kept};
 ghost use Rattle.cover_marks.specs.Marks.{AreMarksOf};
@@ -43,7 +43,7 @@ use step_runs::{MarkNotes, words_law};
 use step_start::{find_step, settle_step};
 use step_words::StepWords;
 
-/// Closes the step that ends at this time, where each signal with a code has a value. The result is the signal that contradicts it,
+/// Closes the step that ends at this time, which the dump lists or not, where each signal with a code has a value. The result is the signal that contradicts it,
 /// if there is one.
 pub(crate) fn run_step<L: Ledger>(
     design: &Design,
@@ -52,6 +52,7 @@ pub(crate) fn run_step<L: Ledger>(
     room: &mut ReplayRoom,
     state: &mut ReplayState,
     time: u64,
+    listed: bool,
     steps: &mut Steps<L>,
 ) -> Option<Difference>
     requires replayable { IsReplayable (design_view design.now) state.old.notes.points.now }
@@ -66,9 +67,9 @@ pub(crate) fn run_step<L: Ledger>(
     ensures points { state.new.notes.points.now ≡ state.old.notes.points.now }
     ensures values { state.new.values.last ≡ state.old.values.last }
     ensures closed { IfNone result (state.new.values.closed ≡ state.old.values.last) }
-    ensures closes { IfNone result (Closes (made_with (design_view design.now) habit state.old.notes.points.now tables.now) time (parts_with room.old state.old) (parts_with room.new state.new)) }
-    ensures refutes { IfSome result (Refutes (made_with (design_view design.now) habit state.old.notes.points.now tables.now) time (parts_with room.old state.old)) }
-    ensures counts { Counts (made_with (design_view design.now) habit state.old.notes.points.now tables.now) time (parts_with room.old state.old) steps.old steps.new }
+    ensures closes { IfNone result (Closes (made_with (design_view design.now) habit state.old.notes.points.now tables.now) time listed (parts_with room.old state.old) (parts_with room.new state.new)) }
+    ensures refutes { IfSome result (Refutes (made_with (design_view design.now) habit state.old.notes.points.now tables.now) time listed (parts_with room.old state.old)) }
+    ensures counts { Counts (made_with (design_view design.now) habit state.old.notes.points.now tables.now) time listed (parts_with room.old state.old) steps.old steps.new }
     ensures named { IfSome result (λ found. found.signal < length design.now.signals) }
 {
     words_law();
@@ -94,6 +95,7 @@ pub(crate) fn run_step<L: Ledger>(
         &room.step.values,
         &state.store,
         time,
+        listed,
         &mut state.seen,
         &mut state.notes,
     );
@@ -103,6 +105,7 @@ pub(crate) fn run_step<L: Ledger>(
         &room.step.values,
         &state.store,
         time,
+        listed,
         &mut state.machines,
         &mut state.notes,
     );
@@ -173,6 +176,7 @@ fn mark_step(
     values: &StepValues,
     store: &Store,
     time: u64,
+    listed: bool,
     seen: &mut SignalMarks,
     notes: &mut MarkNotes,
 )
@@ -187,10 +191,19 @@ fn mark_step(
     ensures points { notes.new.points.now ≡ notes.old.points.now }
     ensures written { notes.new.written ≡ notes.old.written }
     ensures marks { AreMarksOf notes.old.points.now notes.new.marks }
-    ensures toggles { (st : Closing) → IsOver st notes.old.points.now moves.now time store.now values.now seen.old notes.old.marks → MarksInTurn st notes.old.points.now moves.now notes.old.marks.verdicts notes.new.marks.verdicts }
-    ensures seen { (st : Closing) → IsOver st notes.old.points.now moves.now time store.now values.now seen.old notes.old.marks → IsSeenAfter st notes.old.points.now seen.new notes.new.marks }
+    ensures toggles { (st : Closing) → IsOver st notes.old.points.now moves.now time listed store.now values.now seen.old notes.old.marks → MarksInTurn st notes.old.points.now moves.now notes.old.marks.verdicts notes.new.marks.verdicts }
+    ensures seen { (st : Closing) → IsOver st notes.old.points.now moves.now time listed store.now values.now seen.old notes.old.marks → IsSeenAfter st notes.old.points.now seen.new notes.new.marks }
 {
-    mark_moved(moves, design, values, store, time, seen, &mut notes.marks);
+    mark_moved(
+        moves,
+        design,
+        values,
+        store,
+        time,
+        listed,
+        seen,
+        &mut notes.marks,
+    );
 }
 
 /// Marks the states and arcs of the machines of what may move, over the step that ends at this time, and at the first step of the window
@@ -201,6 +214,7 @@ fn mark_machines(
     values: &StepValues,
     store: &Store,
     time: u64,
+    listed: bool,
     machines: &mut MachineMarks,
     notes: &mut MarkNotes,
 )
@@ -209,11 +223,11 @@ fn mark_machines(
     requires fits { FitsSignals (design_view design.now) values.now }
     requires marks { AreMarksOf notes.old.points.now notes.old.marks }
     ensures index { machines.new.index ≡ machines.old.index }
-    ensures told { machines.new.told ≡ true }
+    ensures told { machines.new.told ≡ listed }
     ensures points { notes.new.points.now ≡ notes.old.points.now }
     ensures written { notes.new.written ≡ notes.old.written }
     ensures marks { AreMarksOf notes.old.points.now notes.new.marks }
-    ensures machines { (st : Closing) → HasRun st moves.now time store.now values.now → MarksMachines st notes.old.points.now machines.old.told notes.old.marks.verdicts notes.new.marks.verdicts }
+    ensures machines { (st : Closing) → HasRun st moves.now time listed store.now values.now → MarksMachines st notes.old.points.now (not listed || machines.old.told) notes.old.marks.verdicts notes.new.marks.verdicts }
 {
     machines.mark(
         moves,
@@ -222,6 +236,7 @@ fn mark_machines(
         values,
         store,
         time,
+        listed,
         &mut notes.marks,
     );
 }

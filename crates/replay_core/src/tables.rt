@@ -1,6 +1,6 @@
 //! What is made of a design and the codes of its signals once.
 
-ghost use Rattle.std.specs.Prelude.{◌≡◌, ◌<◌, ◌++◌, [], ℕ, Bool, IfOk, None, Some, length, slice_index_or};
+ghost use Rattle.std.specs.Prelude.{◌≡◌, ◌<◌, ◌++◌, [], ℕ, Bool, IfNone, IfOk, IfSome, None, Some, length, slice_index_or};
 ghost use Rattle.design_model.specs.Lawful.{IsLawfulDesign};
 ghost use Rattle.design_model.specs.View.{design_view};
 ghost use Rattle.process_order.specs.Tables.{tables_of};
@@ -11,11 +11,11 @@ ghost use Rattle.first_step.specs.step_changes.Changes.{AreSignalsOf};
 ghost use Rattle.first_step.specs.step_values.Loose.{has_code};
 ghost use Rattle.step_runs.specs.Rows.{AreWrittenRows};
 ghost use Rattle.replay_core.specs.Codes.{flags_of};
-ghost use Rattle.replay_core.specs.Fits.{FitsTables};
+ghost use Rattle.replay_core.specs.Fits.{FitsTables, HasInputs, IsUnbound};
 
 use crate::rows::{code_lists, joined};
 use cov_host::NoMemory;
-use design_model::Design;
+use design_model::{Design, Signal};
 use design_wakes::transpose;
 use first_step::{Wake, check_rows, wake_rows};
 use index_sets::Rows;
@@ -36,6 +36,8 @@ pub(crate) struct ReplayTables {
     pub(crate) wakes: Rows<Wake>,
     /// The signals with a code of which each process may write a bit.
     pub(crate) checks: Rows<u32>,
+    /// Whether an input has no code: it may then change at times that the dump does not list.
+    pub(crate) lacks_input: bool,
 }
 
 // Written out so that a crate which lets one go does not prove again how each of its parts is let go.
@@ -46,6 +48,7 @@ impl Drop for ReplayTables {
             processes: _,
             wakes: _,
             checks: _,
+            lacks_input: _,
         } = self;
     }
 }
@@ -77,11 +80,14 @@ pub(crate) fn make_tables(
         step.codes.as_slice(),
     )?;
     rows_law();
+    let unbound = first_unbound(design.signals.as_slice(), bound);
+    let lacks_input = unbound.is_some();
     let tables = ReplayTables {
         step,
         processes,
         wakes,
         checks,
+        lacks_input,
     };
     Ok(Box::new(alloc, tables)?)
 }
@@ -147,4 +153,18 @@ fn clocked_order(
         design.processes.len() as u32,
         processes.clocked.as_slice(),
     )
+}
+
+/// The number of the first input that has no code, where `bound` says for each signal whether it has one.
+fn first_unbound(signals: &[Signal], bound: &[bool]) -> Option<usize>
+    requires { length bound.now ≡ length signals.now }
+    ensures first { IfSome result (IsUnbound signals.now bound.now) }
+    ensures none { IfNone result (HasInputs signals.now bound.now) }
+{
+    for (place, signal) in signals.iter().enumerate() {
+        if signal.input && !bound[place] {
+            return Some(place);
+        }
+    }
+    None
 }

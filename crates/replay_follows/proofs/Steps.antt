@@ -1,12 +1,12 @@
 -- From one closed step to the next.
-use Rattle.std.proofs.Common.{◌≡◌, ℕ, zero, suc, ◌+◌, ◌-◌, ◌<◌, ◌≤◌, List, [], ◌∷◌, Some, None, sym, ap, subst, ◌∙◌, arith}
+use Rattle.std.proofs.Common.{◌≡◌, ℕ, zero, suc, ◌+◌, ◌-◌, ◌<◌, ◌≤◌, List, [], ◌∷◌, Some, None, sym, ap, subst, ◌∙◌, inl, inr, arith}
 use Rattle.std.specs.Prelude.{slice_index_or}
-use Rattle.std.proofs.lemmas.Bool.{false≢true}
+use Rattle.std.proofs.lemmas.Bool.{cases_lt, false≢true}
 use Rattle.four_state.specs.Vector.{Vector}
 use Rattle.code_values.specs.Values.{value_of}
 use Rattle.step_parts.specs.cover_points.Listed.{points_of}
 use Rattle.design_model.specs.Design.{signal_bits}
-use Rattle.design_model.specs.Shows.{BoundDump, IsListed, IsShownOf, IsWindow, IsWindowOf, last_time}
+use Rattle.design_model.specs.Shows.{BoundDump, IsListed, IsShownOf, IsWindowOf}
 use Rattle.step_parts.proofs.replay_model.ReasonedLaws.{reasoned_verdict_law}
 use Rattle.step_parts.proofs.replay_model.SoundLaws.{contradiction_law, first_contradiction_law, sound_verdict_law}
 use Rattle.step_parts.proofs.replay_model.StandsLaws.{first_stands_law, step_stands_law}
@@ -69,8 +69,8 @@ same_values dump stays t (suc n) gap =
     before ∙ sym one ∙ ap dump.values next
 
 pub stays : RestLaw
-stays f t zero a x gap follows = let none : t ≡ t + zero = omega arith in subst (λ u. Follows f u a x) none follows
-stays f t (suc n) a x gap follows =
+stays f t zero a x calm gap follows = let none : t ≡ t + zero = omega arith in subst (λ u. Follows f u a x) none follows
+stays f t (suc n) a x calm gap follows =
     let s = follows.subject in
     let last = gap (t + suc n) (omega arith) (omega arith) in
     record {
@@ -82,7 +82,7 @@ stays f t (suc n) a x gap follows =
       rest = follows.rest;
       told = follows.told;
       shown = shown_of f.dump.times (t + suc n) last.0;
-      stands = rests f.design (habit_of f.habit) f.dump f.run f.tables (points_of f.points) s.is s.wakes t (suc n) a gap follows.stands;
+      stands = rests f.design (habit_of f.habit) f.dump f.run f.tables (points_of f.points) s.is s.wakes t (suc n) a calm gap follows.stands;
     }
 
 -- what is after a time that is shown and not after one of the window is of the window
@@ -91,12 +91,12 @@ between [] t u time shown window after within = shown
 between (w ∷ ws) t u time shown window after within = (omega (arith, shown.0, after), omega (arith, window.1, within))
 
 pub nexts : NextLaw
-nexts f t time a x later window gap follows =
+nexts f t time a x calm later window gap follows =
     let n : ℕ = time - suc t in
     let end : time ≡ suc (t + n) = omega (arith, later) in (
       t + n,
       end,
-      stays f t n a x (λ u after within. (between f.dump.times t u time follows.shown window after (omega (arith, within, end)), gap u after (omega (arith, within, end)))) follows,
+      stays f t n a x calm (λ u after within. (between f.dump.times t u time follows.shown window after (omega (arith, within, end)), gap u after (omega (arith, within, end)))) follows,
     )
 
 -- ---- a step
@@ -109,7 +109,7 @@ due f t a x follows given =
       lawful = s.is.lawful;
       tables = follows.sets;
       writers = follows.writers;
-      round = s.rounds (suc t);
+      round = s.is.rounds (suc t);
       bound = s.bound;
       flagged = s.flagged;
       signals = s.is.fits.signals;
@@ -129,7 +129,7 @@ due f t a x follows given =
     }
 
 pub closes : ClosedLaw
-closes f t a x y early follows given window listed sets of writers none values rest told =
+closes f t a x y early follows given window sets of writers none values rest told =
     let s = follows.subject in
     record {
       subject = s;
@@ -140,7 +140,7 @@ closes f t a x y early follows given window listed sets of writers none values r
       rest = rest;
       told = told;
       shown = shown_of f.dump.times (suc t) window;
-      stands = step_stands_law (habit_of f.habit) f.design f.dump f.run f.tables (points_of f.points) s.is s.wakes t (sets_of y.sets early) a window listed sets none follows.stands;
+      stands = step_stands_law (habit_of f.habit) f.design f.dump f.run f.tables (points_of f.points) s.is s.wakes t (sets_of y.sets early) a window sets none follows.stands;
     }
 
 pub against : ContradictedLaw
@@ -150,33 +150,23 @@ against f t a x sets early c follows window are differs r showing =
 
 -- ---- the end of the dump
 
--- so many times are after a time that is shown and before the last one
-pub record AreLeft (ts : List ℕ) (t n : ℕ) : Type 0 where
-  pub window : (u : ℕ) → t < u → u ≤ t + n → IsWindowOf ts u
-  pub last : (u : ℕ) → IsShownOf ts u → u ≤ t + n
-
-left : (ts : List ℕ) (t : ℕ) → IsShownOf ts t → (n : ℕ) × AreLeft ts t n
-left [] t shown = absurd shown
-left (u ∷ us) t shown = (
-  last_time u us - suc t,
-  record {
-    window = λ w after within. (omega (arith, shown.0, after), omega (arith, shown.1, within));
-    last = λ w before. omega (arith, shown.1, before.1);
-  },
-)
+-- where no time of the window is after a time that is shown, no time that is shown is
+shown_until : (ts : List ℕ) (t u : ℕ) → IsShownOf ts t → ((w : ℕ) → IsWindowOf ts w → w ≤ t) → IsShownOf ts u → u ≤ t
+shown_until [] t u shown last at = absurd shown
+shown_until (w ∷ ws) t u shown last at = elim (cases_lt t u) [
+  | inl later ↦ last u (omega (arith, shown.0, later), at.1)
+  | inr before ↦ before
+]
 
 pub ends : VerdictsLaw
 ends f t a x last follows =
-    let rest = left f.dump.times t follows.shown in
-    let n = rest.0 in
-    let end = stays f t n a x (λ u after within. (rest.1.window u after within, last u after (rest.1.window u after within))) follows in
-    let before : (u : ℕ) → IsWindow f.dump u → u ≤ t + n = λ u window. rest.1.last u (shown_of f.dump.times u window) in
+    let is = follows.subject.is in
     record {
       marks = follows.rest.points;
       verdicts = follows.rest.marks;
-      sound = sound_verdict_law f.design (habit_of f.habit) f.dump (points_of f.points) (t + n) a before end.shown end.stands.sound;
-      reasoned = reasoned_verdict_law f.design (habit_of f.habit) f.dump (points_of f.points) (t + n) a before end.shown end.stands.sound end.stands.reasoned;
-      forced = λ u s bits forced. end.stands.forced u s bits (rest.1.last u forced.is_shown) forced;
+      sound = sound_verdict_law f.design (habit_of f.habit) f.dump (points_of f.points) t a last follows.shown follows.stands.sound;
+      reasoned = reasoned_verdict_law f.design (habit_of f.habit) f.dump (points_of f.points) t a is.lawful is.fits is.rounds last follows.shown follows.stands.sound follows.stands.reasoned;
+      forced = λ u s bits forced. follows.stands.forced u s bits (shown_until f.dump.times t u follows.shown last forced.is_shown) forced;
     }
 
 -- ---- what is refused

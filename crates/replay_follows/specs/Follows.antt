@@ -10,7 +10,6 @@ use Rattle.step_parts.specs.cover_points.Visits.{AreApart, AreOnce}
 use Rattle.step_parts.specs.cover_points.declared.listing.Points.{Points}
 use Rattle.design_model.specs.Design.{Design}
 use Rattle.step_parts.specs.cover_points.design_machines.state_machines.Machines.{StateMachines}
-use Rattle.design_model.specs.MayMove.{AreLastRounds}
 use Rattle.design_model.specs.Shows.{BoundDump, IsShown}
 use Rattle.early_sets.specs.WakeState.{WakeState}
 use Rattle.early_sets.specs.declared.habit.Habit.{Habit}
@@ -42,10 +41,9 @@ pub record Subject : Type 0 where
   pub ranks : List (Option ℕ)  -- the place of each Assign and Comb in the order
   pub clocked_ranks : List (Option ℕ)  -- the place of each Clocked among them
 
--- it is of a lawful design and its points, with some state machines, each step is judged by its last round, and the codes and the places are those of its dump and tables
+-- it is of a lawful design and its points, with some state machines, and the codes and the places are those of its dump and tables
 pub record IsSubject (f : Subject) : Type 0 where
   pub is : IsReplayOf f.design (habit_of f.habit) f.dump f.run f.tables (points_of f.points)
-  pub rounds : AreLastRounds f.design f.dump
   pub wakes : HasOwnWakes f.design
   pub machines : StateMachines
   pub listed : IsPointList f.design machines f.points

@@ -9,6 +9,7 @@ use Rattle.design_model.specs.Clear.{IsForced}
 use Rattle.design_model.specs.Design.{signal_bits}
 use Rattle.design_model.specs.Shows.{BoundDump, IsContradicted, IsFirst, IsListed, IsShown, IsWindow}
 use Rattle.early_sets.specs.WakeState.{WakeState}
+use Rattle.step_parts.specs.replay_model.hidden_times.Hidden.{IsCalm}
 use Rattle.machine_laws.specs.Told.{AreTold}
 use Rattle.step_parts.specs.mark_laws.Marked.{AreVerdicts}
 use Rattle.step_parts.specs.replay_model.Laws.{AreReasonedVerdicts, AreSoundVerdicts}
@@ -81,14 +82,14 @@ FirstContradictedLaw =
 abbrev pub GivenLaw : Type 0
 GivenLaw = (f : Subject) (t : ℕ) (a : Replay) (x : Parts) (values : Values) → values.closed ≡ x.values.closed → Follows f t a x → Follows f t a (record x { values = values })
 
--- over times that the dump does not list it has followed it too
+-- over times that the dump does not list it has followed it too, where each input is bound or the dump does not list this time either
 abbrev pub RestLaw : Type 0
-RestLaw = (f : Subject) (t n : ℕ) (a : Replay) (x : Parts) → ((u : ℕ) → t < u → u ≤ t + n → IsWindow f.dump u × (IsListed f.dump u → ⊥)) → Follows f t a x → Follows f (t + n) a x
+RestLaw = (f : Subject) (t n : ℕ) (a : Replay) (x : Parts) → IsCalm f.design f.dump t → ((u : ℕ) → t < u → u ≤ t + n → IsWindow f.dump u × (IsListed f.dump u → ⊥)) → Follows f t a x → Follows f (t + n) a x
 
 -- and so up to the time before one of the window, where the dump lists none between
 abbrev pub NextLaw : Type 0
 NextLaw =
-    (f : Subject) (t time : ℕ) (a : Replay) (x : Parts) → t < time → IsWindow f.dump time → ((u : ℕ) → t < u → u < time → IsListed f.dump u → ⊥) → Follows f t a x
+    (f : Subject) (t time : ℕ) (a : Replay) (x : Parts) → IsCalm f.design f.dump t → t < time → IsWindow f.dump time → ((u : ℕ) → t < u → u < time → IsListed f.dump u → ⊥) → Follows f t a x
     → (before : ℕ) × (time ≡ suc before) × Follows f before a x
 
 -- once the dump's values at the time after it are given, the next step is due
@@ -98,7 +99,7 @@ DueLaw = (f : Subject) (t : ℕ) (a : Replay) (x : Parts) → Follows f t a x �
 -- after a step that nothing contradicts the replay has followed the dump up to its end
 abbrev pub ClosedLaw : Type 0
 ClosedLaw =
-    (f : Subject) (t : ℕ) (a : Replay) (x y : Parts) (early : ℕ → List ℕ) → Follows f t a x → AreGiven f x (suc t) → IsWindow f.dump (suc t) → IsListed f.dump (suc t)
+    (f : Subject) (t : ℕ) (a : Replay) (x y : Parts) (early : ℕ → List ℕ) → Follows f t a x → AreGiven f x (suc t) → IsWindow f.dump (suc t)
     → AreSets f.design (habit_of f.habit) f.dump (suc t) (sets_of y.sets early) → IsOfDesign f.design f.flags y.sets → HasWriters f y
     → ((c : Cell) → contradicts (step_at f t a x y.sets early) c ≡ false) → y.values.closed ≡ x.values.last
     → AtRest f.design f.points (next_replay f t a x y.sets early) y.store y.acted y.marks y.seen → (y.told ≡ true → AreTold f.design f.points (next_replay f t a x y.sets early))
@@ -110,9 +111,9 @@ ContradictedLaw =
     (f : Subject) (t : ℕ) (a : Replay) (x : Parts) (sets : WakeState) (early : ℕ → List ℕ) (c : Cell) → Follows f t a x → IsWindow f.dump (suc t)
     → AreSets f.design (habit_of f.habit) f.dump (suc t) (sets_of sets early) → contradicts (step_at f t a x sets early) c ≡ true → IsRefused f (suc t)
 
--- the dump lists no time of its window after this one
+-- no time of the dump's window is after this one
 abbrev pub IsLastStep : BoundDump → ℕ → Type 0
-IsLastStep dump t = (u : ℕ) → t < u → IsWindow dump u → IsListed dump u → ⊥
+IsLastStep dump t = (u : ℕ) → IsWindow dump u → u ≤ t
 
 -- the marks have the verdicts of the replay, which hold in each run that shows the dump, and no forced value differs from the dump's
 pub record HasVerdicts (f : Subject) (a : Replay) (x : Parts) : Type 0 where

@@ -44,6 +44,26 @@ join_right (Some a) (Some x) b h = go (same_bit a x) refl
     go true e = same_bit_is a x e ∙ h
     go false e = tt
 
+-- a join that knows a bit joins two that know it
+pub join_is : (x y : Option Bit) (p : Bit) → join_bit x y ≡ Some p → y ≡ Some p
+join_is None y p e = absurd (cc)
+join_is (Some a) None p e = absurd (cc)
+join_is (Some a) (Some b) p e = go (same_bit a b) refl e
+  where
+    go : (t : Bool) → same_bit a b ≡ t → (if t then Some a else None) ≡ Some p → Some b ≡ Some p
+    go true f g = ap Some (sym (same_bit_is a b f)) ∙ g
+    go false f g = absurd (cc)
+
+-- a join that knows none joins one that knows none, or two that differ
+pub join_none : (x y : Option Bit) → join_bit x y ≡ None → (x ≡ None) ⊎ ((y ≡ None) ⊎ ((p q : Bit) × (x ≡ Some p) × (y ≡ Some q) × (p ≡ q → ⊥)))
+join_none None y e = inl refl
+join_none (Some a) None e = inr (inl refl)
+join_none (Some a) (Some b) e = inr (inr (a, b, refl, refl, go (same_bit a b) refl e))
+  where
+    go : (t : Bool) → same_bit a b ≡ t → (if t then Some a else None) ≡ None → a ≡ b → ⊥
+    go true f g same = absurd (cc)
+    go false f g same = both_ways _ f (subst (λ z. same_bit a z ≡ true) same (same_bit_self a))
+
 -- allowed values of what surely differs differ
 pub differ_apart : (p q : Option Bit) (a b : Bit) → surely_differ p q ≡ true → Allows p a → Allows q b → a ≡ b → ⊥
 differ_apart (Some x) (Some y) a b e h k same = both_ways (same_bit x y) (not-true _ e) (subst (λ z. same_bit x z ≡ true) (h ∙ same ∙ sym k) (same_bit_self x))

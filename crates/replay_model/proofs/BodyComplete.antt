@@ -1,9 +1,9 @@
 -- A point of a body that is hit at this time, in a run that shows the dump, is told to be hit or in doubt.
-use Rattle.std.proofs.Common.{◌≡◌, ◌⊎◌, inl, inr, ⊎_elim, ℕ, suc, ◌<◌, Bool, true, false, not, ◌||◌, List, [], ◌∷◌, ◌++◌, length, refl, sym, ap, subst, ◌∙◌, Option, Some, None}
-use Rattle.std.specs.List.{list_any, list_all}
-use Rattle.std.proofs.lemmas.Bool.{both_ways, cases_Bool, cases_lt, false_from_ne_true, not-true, or_cases}
+use Rattle.std.proofs.Common.{◌≡◌, ◌⊎◌, inl, inr, ⊎_elim, ℕ, suc, ◌<◌, Bool, true, false, not, ◌||◌, List, [], ◌∷◌, length, refl, sym, ap, subst, ◌∙◌, Option, Some, None}
+use Rattle.std.specs.List.{list_all}
+use Rattle.std.proofs.lemmas.Bool.{both_ways, cases_lt}
 use Rattle.event_machine.specs.Cell.{Cell, Values}
-use Rattle.event_machine.specs.Machine.{IsTarget, IsWakeCell}
+use Rattle.event_machine.specs.Machine.{IsWakeCell}
 use Rattle.event_machine.specs.Habit.{Habit}
 use Rattle.event_machine.specs.Laws.{EarlyLaw}
 use Rattle.design_model.specs.four_state.declared.bit.Bit.{Bit}
@@ -32,39 +32,26 @@ use Rattle.replay_model.specs.Tables.{Tables}
 use Rattle.replay_model.specs.Marks.{IsKeyOf, Marking, markings_by, of_process}
 use Rattle.replay_model.specs.Step.{Closing, Replay, all_run, certainty, clean_order, clocked_run, entry_kept, is_touched, opened, plain_store, run_all_clean, settled_kept, surely_same, wake_cells}
 use Rattle.replay_model.specs.Laws.{IsReplayOf, closing_at}
-use Rattle.replay_model.proofs.Allows.{below_of, here, in_all, past}
-use Rattle.replay_model.proofs.Bits.{all_in, any_in, in_any, in_left, in_right, none_in, same_equal}
+use Rattle.replay_model.proofs.AllowedBy.{IsUnknown, past, some_target}
+use Rattle.replay_model.proofs.Allows.{here}
+use Rattle.replay_model.proofs.Bits.{all_in, in_any, same_equal}
 use Rattle.replay_model.proofs.BodyMarks.{Good, clean_told, entry_allowed, last_told, order_told, settled_allowed, weak_told}
 use Rattle.replay_model.proofs.Existing.{changed_exists}
 use Rattle.replay_model.proofs.Hits.{OnWakes, Way, all_still, doubt_told, every_entry, every_settling, hit_told, in_not_assigned, in_visited, still, sure, unsure, unwoken_none, way_of}
-use Rattle.replay_model.proofs.Targets.{clocked_or, is_target-from, is_target-of}
-use Rattle.replay_model.specs.Step.{is_target}
+use Rattle.replay_model.proofs.Targets.{clocked_or}
 use Rattle.replay_model.proofs.Trace.{CleanRun, SettleRun, WeakRun}
 
-in_reads : (Q : ℕ → Type 0) (xs : List Visit) (m i : ℕ) (inner : Bool) → AllReads Q xs → In (reads (a_word m i) inner) xs → Q m
+pub in_reads : (Q : ℕ → Type 0) (xs : List Visit) (m i : ℕ) (inner : Bool) → AllReads Q xs → In (reads (a_word m i) inner) xs → Q m
 in_reads Q [] m i inner all h = absurd h
 in_reads Q (x ∷ xs) m i inner all (inl e) = (subst (λ z. AllReads Q (z ∷ xs)) e all).0
 in_reads Q (x ∷ xs) m i inner all (inr h) = in_reads Q xs m i inner all.1 h
 
-module _ (d : Design) (h : Habit) (dump : BoundDump) (run : Runs) (tables : Tables) (points : List Point) (is : IsReplayOf d h dump run tables points) (laws : StepLaws (machine d) h) (early_law : EarlyLaw (machine d)) (asked : AskedLaws d) (t : ℕ) (window : IsWindow dump (suc t)) (sets : Sets) (are : AreSets d h dump (suc t) sets) (a : Replay) (r : Run) (showing : IsShowing d h dump (suc t) r) (starts : AllowsState a.kept (settled d r t)) (acted : (p : ℕ) → IsComb (process_at d p) → a.acted p ≡ true → IsLeft d p (settled d r t)) where
+module _ (d : Design) (h : Habit) (dump : BoundDump) (run : Runs) (tables : Tables) (points : List Point) (is : IsReplayOf d h dump run tables points) (laws : StepLaws (machine d) h) (early_law : EarlyLaw (machine d)) (asked : AskedLaws d) (t : ℕ) (window : IsWindow dump (suc t)) (sets : Sets) (are : AreSets d h dump (suc t) sets) (a : Replay) (r : Run) (showing : IsShowing d h dump (suc t) r) (starts : AllowsState a.kept (settled d r t)) (acted : (p : ℕ) → IsComb (process_at d p) → a.acted p ≡ true → IsLeft d p (settled d r t)) (unknown : IsUnknown d dump a) where
   abbrev st : Closing
   st = closing_at d dump run tables sets t a
 
   abbrev facts : StepFacts d h dump t (settled d r t) (settled d r (suc t))
   facts = here d h dump run tables points is laws early_law t window sets are a r showing starts
-
-  -- whether some process may write the cell
-  some_target : (c : Cell) → ((p : ℕ) × IsTarget (machine d) p c) ⊎ ((p : ℕ) → IsTarget (machine d) p c → ⊥)
-  some_target c = ⊎_elim found none (cases_Bool (list_any (λ p. is_target d p c) (tables.clocked ++ (tables.order ++ tables.last))))
-    where
-      found : list_any (λ p. is_target d p c) (tables.clocked ++ (tables.order ++ tables.last)) ≡ true → ((p : ℕ) × IsTarget (machine d) p c) ⊎ ((p : ℕ) → IsTarget (machine d) p c → ⊥)
-      found e = let p = any_in (λ p. is_target d p c) (tables.clocked ++ (tables.order ++ tables.last)) e in inl (p.0, is_target-from d p.0 c p.2)
-
-      listed : (p : ℕ) → p < length d.processes → In p (tables.clocked ++ (tables.order ++ tables.last))
-      listed p below = ⊎_elim (λ y. in_left p tables.clocked (tables.order ++ tables.last) ((is.tabled.clocked p).1 (below, y))) (λ y. in_right p tables.clocked (tables.order ++ tables.last) (in_all d h dump run tables points is laws early_law t window sets are a r showing starts p below y)) (clocked_or (process_at d p))
-
-      none : list_any (λ p. is_target d p c) (tables.clocked ++ (tables.order ++ tables.last)) ≡ false → ((p : ℕ) × IsTarget (machine d) p c) ⊎ ((p : ℕ) → IsTarget (machine d) p c → ⊥)
-      none e = inr (λ p target. both_ways _ (none_in (λ p. is_target d p c) (tables.clocked ++ (tables.order ++ tables.last)) e p (listed p (below_of d h dump run tables points is laws early_law t window sets are a r showing starts p c target))) (is_target-of d p c target))
 
   -- a process that is clocked, or sensitive to something, is one of the design
   clocked_below : (p : ℕ) → IsClocked (process_at d p) → p < length d.processes
@@ -86,24 +73,24 @@ module _ (d : Design) (h : Habit) (dump : BoundDump) (run : Runs) (tables : Tabl
   module _ (k : StepOf r) (at : k.step.time ≡ suc t) (p : ℕ) (v : Values Bit) (scored : IsScored d r k p v) (s : Spot) (seen : Visited s (execution d (body_at d p) v).visits) where
     later : (n : Marking) → In n (clocked_run st).notes → In n (all_run st).notes
     later n y =
-        (last_told d h dump run tables points is laws early_law asked t window sets are a r showing starts acted).keeps n ((order_told d h dump run tables points is laws early_law asked t window sets are a r showing starts acted).keeps n y)
+        (last_told d h dump run tables points is laws early_law asked t window sets are a r showing starts acted unknown).keeps n ((order_told d h dump run tables points is laws early_law asked t window sets are a r showing starts acted unknown).keeps n y)
 
     by_clean : (e : ℕ) → sets.trigger p ≡ Some e → IsClocked (process_at d p) → TellsNow p s
-    by_clean e f is_clocked = tells ((clean_told d h dump run tables points is laws early_law asked t window sets are a r showing starts acted).has p ((is.tabled.clocked p).1 (clocked_below p is_clocked, is_clocked), (e, f)))
+    by_clean e f is_clocked = tells ((clean_told d h dump run tables points is laws early_law asked t window sets are a r showing starts acted unknown).has p ((is.tabled.clocked p).1 (clocked_below p is_clocked, is_clocked), (e, f)))
       where
         tells : (ns : List Note) × CleanRun d is.lawful h early_law dump run is.runs tables t sets are a p ns × ((n : Marking) → In n (markings_by p ns) → In n (run_all_clean st (clean_order st) (opened st)).notes) → TellsNow p s
         tells c =
-            from_notes p s c.0 (λ n y. later n ((weak_told d h dump run tables points is laws early_law asked t window sets are a r showing starts acted).keeps n (c.2 n y)))
+            from_notes p s c.0 (λ n y. later n ((weak_told d h dump run tables points is laws early_law asked t window sets are a r showing starts acted unknown).keeps n (c.2 n y)))
             (subst (λ ns. HasHitNote s ns ⊎ ((y : Doubted) × (y.time ≡ suc t) × HasDoubtNote s y ns)) (sym c.1.notes)
             (⊎_elim (λ y. inl y) (λ y. inr (y.0, (is.runs.blames p c.1.store (suc t) s y.0 y.1).0, y.1)) (is.runs.visits_marked p c.1.store (suc t) v allowed s seen)))
           where
             allowed : AllowsState (seen_of c.1.store) v
             allowed b =
                 let o = every_entry d h dump run tables points is laws t window r showing k at p (cell c.1.trigger 0) (are.trigger p c.1.trigger c.1.is_trigger) v scored in
-                subst (λ z. Allows z (v b)) (sym (c.1.reads b)) (subst (λ f. Allows (entry_kept st p c.1.trigger b) (f b)) (sym o.1) (entry_allowed d h dump run tables points is laws early_law asked t window sets are a r showing starts acted p c.1.trigger c.1.is_trigger o.0 b))
+                subst (λ z. Allows z (v b)) (sym (c.1.reads b)) (subst (λ f. Allows (entry_kept st p c.1.trigger b) (f b)) (sym o.1) (entry_allowed d h dump run tables points is laws early_law asked t window sets are a r showing starts acted unknown p c.1.trigger c.1.is_trigger o.0 b))
 
     by_weak : (thing : ℕ) → sets.trigger p ≡ None → sets.wakes p ≡ Some thing → IsClocked (process_at d p) → TellsNow p s
-    by_weak thing e f is_clocked = tells ((weak_told d h dump run tables points is laws early_law asked t window sets are a r showing starts acted).has p ((is.tabled.clocked p).1 (clocked_below p is_clocked, is_clocked), (e, (thing, f))))
+    by_weak thing e f is_clocked = tells ((weak_told d h dump run tables points is laws early_law asked t window sets are a r showing starts acted unknown).has p ((is.tabled.clocked p).1 (clocked_below p is_clocked, is_clocked), (e, (thing, f))))
       where
         tells : (ns : List Note) × WeakRun d is.lawful h early_law dump run is.runs tables t sets are a p ns × ((n : Marking) → In n (markings_by p ns) → In n (clocked_run st).notes) → TellsNow p s
         tells c =
@@ -119,21 +106,21 @@ module _ (d : Design) (h : Habit) (dump : BoundDump) (run : Runs) (tables : Tabl
         e : OnWakes d h dump run tables points is laws t window r showing p v × ((c : Cell) × IsWakeCell (machine d) p c × (settled d r t c ≡ settled d r (suc t) c → ⊥))
         e = every_settling d h dump run tables points is laws t window r showing k at p settles v scored
 
-        tells : (ns : List Note) × SettleRun d is.lawful h early_law dump run is.runs tables t sets are a (Good d h dump run tables points is laws early_law asked t window sets are a r showing starts acted) p ns × ((n : Marking) → In n (markings_by p ns) → In n (all_run st).notes) → (OnWakes d h dump run tables points is laws t window r showing p v × ((c : Cell) × IsWakeCell (machine d) p c × (settled d r t c ≡ settled d r (suc t) c → ⊥))) → TellsNow p s
+        tells : (ns : List Note) × SettleRun d is.lawful h early_law dump run is.runs tables t sets are a (Good d h dump run tables points is laws early_law asked t window sets are a r showing starts acted unknown) p ns × ((n : Marking) → In n (markings_by p ns) → In n (all_run st).notes) → (OnWakes d h dump run tables points is laws t window r showing p v × ((c : Cell) × IsWakeCell (machine d) p c × (settled d r t c ≡ settled d r (suc t) c → ⊥))) → TellsNow p s
         tells c e = from_notes p s c.0 c.2 (subst (λ ns. HasHitNote s ns ⊎ ((y : Doubted) × (y.time ≡ suc t) × HasDoubtNote s y ns)) (sym c.1.notes) (go (way_of st c.1.wk.kept p)))
           where
             abbrev_how : (how : Certainty) → certainty st c.1.wk.kept p ≡ how → HasHitNote s (run p (plain_store (settled_kept d p c.1.wk.kept)) how).notes ⊎ ((y : Doubted) × (y.time ≡ suc t) × HasDoubtNote s y (run p (plain_store (settled_kept d p c.1.wk.kept)) how).notes) → HasHitNote s (run p (plain_store (settled_kept d p c.1.wk.kept)) (certainty st c.1.wk.kept p)).notes ⊎ ((y : Doubted) × (y.time ≡ suc t) × HasDoubtNote s y (run p (plain_store (settled_kept d p c.1.wk.kept)) (certainty st c.1.wk.kept p)).notes)
             abbrev_how how f x = subst (λ z. HasHitNote s (run p (plain_store (settled_kept d p c.1.wk.kept)) z).notes ⊎ ((y : Doubted) × (y.time ≡ suc t) × HasDoubtNote s y (run p (plain_store (settled_kept d p c.1.wk.kept)) z).notes)) (sym f) x
 
             allowed : (x : Values Bit) × AllowsState (settled_kept d p c.1.wk.kept) x × ((execution d (body_at d p) x).visits ≡ (execution d (body_at d p) v).visits)
-            allowed = settled_allowed d h dump run tables points is laws early_law asked t window sets are a r showing starts acted p settles c.1.wk.kept c.1.holds.0.allowed v e.0
+            allowed = settled_allowed d h dump run tables points is laws early_law asked t window sets are a r showing starts acted unknown p settles c.1.wk.kept c.1.holds.0.allowed v e.0
 
             moves : (b : Bool) → sets.moves e.1.0.thing ≡ b → (not b || list_all (λ c'. surely_same (a.kept c') (c.1.wk.kept c')) (wake_cells d p e.1.0.thing)) ≡ true → ⊥
             moves false f g = e.1.2 (sym (facts.unmoved e.1.0 (λ m. both_ways _ f ((are.moves e.1.0.thing).1 m))))
             moves true f g =
                 e.1.2
                 (same_equal (a.kept e.1.0) (c.1.wk.kept e.1.0) (settled d r t e.1.0) (settled d r (suc t) e.1.0)
-                (all_in (λ c'. surely_same (a.kept c') (c.1.wk.kept c')) (wake_cells d p e.1.0.thing) g e.1.0 (in_not_assigned d p (all_cells d e.1.0.thing) e.1.0 (changed_exists d asked.written_cells h dump t (settled d r t) (settled d r (suc t)) facts e.1.0 (some_target e.1.0) e.1.2) e.1.1.1)) (starts e.1.0) (c.1.holds.0.allowed e.1.0))
+                (all_in (λ c'. surely_same (a.kept c') (c.1.wk.kept c')) (wake_cells d p e.1.0.thing) g e.1.0 (in_not_assigned d p (all_cells d e.1.0.thing) e.1.0 (changed_exists d asked.written_cells h dump t (settled d r t) (settled d r (suc t)) facts e.1.0 (some_target d h dump run tables points is e.1.0) e.1.2) e.1.1.1)) (starts e.1.0) (c.1.holds.0.allowed e.1.0))
 
             go : Way st c.1.wk.kept p → HasHitNote s (run p (plain_store (settled_kept d p c.1.wk.kept)) (certainty st c.1.wk.kept p)).notes ⊎ ((y : Doubted) × (y.time ≡ suc t) × HasDoubtNote s y (run p (plain_store (settled_kept d p c.1.wk.kept)) (certainty st c.1.wk.kept p)).notes)
             go (sure changed f) =
@@ -150,11 +137,11 @@ module _ (d : Design) (h : Habit) (dump : BoundDump) (run : Runs) (tables : Tabl
 
         by_order : In p tables.order → TellsNow p s
         by_order y =
-            let c = (order_told d h dump run tables points is laws early_law asked t window sets are a r showing starts acted).has p (y, touched abbrev_entry) in
-            tells (c.0, c.1, λ n z. (last_told d h dump run tables points is laws early_law asked t window sets are a r showing starts acted).keeps n (c.2 n z)) abbrev_entry
+            let c = (order_told d h dump run tables points is laws early_law asked t window sets are a r showing starts acted unknown).has p (y, touched abbrev_entry) in
+            tells (c.0, c.1, λ n z. (last_told d h dump run tables points is laws early_law asked t window sets are a r showing starts acted unknown).keeps n (c.2 n z)) abbrev_entry
 
         by_last : In p tables.last → TellsNow p s
-        by_last y = tells ((last_told d h dump run tables points is laws early_law asked t window sets are a r showing starts acted).has p (y, touched abbrev_entry)) abbrev_entry
+        by_last y = tells ((last_told d h dump run tables points is laws early_law asked t window sets are a r showing starts acted unknown).has p (y, touched abbrev_entry)) abbrev_entry
 
     tells_now : TellsNow p s
     tells_now = ⊎_elim of_clocked by_settling (clocked_or (process_at d p))

@@ -1,6 +1,5 @@
 -- The marks that a closing step makes on points of bodies are sound and complete.
-use Rattle.std.proofs.Common.{◌≡◌, ◌⊎◌, inl, inr, ⊎_elim, ℕ, suc, Bool, true, false, ◌&&◌, List, ◌∷◌, ◌++◌, refl, sym, subst, Some, None, if◌then◌else◌}
-use Rattle.std.proofs.lemmas.Bool.{and_cases, both_ways, cases_Bool, false_from_ne_true}
+use Rattle.std.proofs.Common.{◌≡◌, ◌⊎◌, inl, inr, ⊎_elim, ℕ, suc, Bool, true, false, List, ◌∷◌, ◌++◌, refl, sym, subst, Some, None}
 use Rattle.event_machine.specs.Cell.{Cell, Values}
 use Rattle.event_machine.specs.Machine.{IsWakeCell}
 use Rattle.event_machine.specs.Habit.{Habit}
@@ -8,7 +7,6 @@ use Rattle.event_machine.specs.Laws.{EarlyLaw}
 use Rattle.design_model.specs.four_state.declared.bit.Bit.{Bit}
 use Rattle.design_model.specs.declared.point.Point.{Point}
 use Rattle.design_model.specs.Design.{Design, In, IsClocked, IsComb, body_at, cell, process_at}
-use Rattle.design_model.specs.Mentions.{blocking_target, body_assigns, body_mentions}
 use Rattle.design_model.specs.Execution.{execution}
 use Rattle.design_model.specs.Machine.{is_level, machine}
 use Rattle.design_model.specs.Run.{Run, StepOf, settled}
@@ -26,19 +24,19 @@ use Rattle.design_model.specs.BodyLaws.{all_cells}
 use Rattle.design_model.specs.StepLaws.{CleanEvaluation, IsLeft, StepFacts}
 use Rattle.replay_model.specs.Tables.{Tables}
 use Rattle.replay_model.specs.Marks.{IsKeyOf, Marking, markings_by, of_process}
-use Rattle.replay_model.specs.Step.{Closing, Replay, Working, all_run, certainty, clean_order, clocked_run, entry_kept, has_changed, is_comb, is_touched, opened, plain_store, run_all_clean, run_all_settling, run_settling, settle_start, settled_kept, surely_differ, wake_cells}
+use Rattle.replay_model.specs.Step.{Closing, Replay, Working, all_run, certainty, clean_order, clocked_run, entry_kept, has_changed, is_touched, opened, plain_store, run_all_clean, run_all_settling, run_settling, settle_start, settled_kept, surely_differ, wake_cells}
 use Rattle.replay_model.specs.Laws.{IsReplayOf, closing_at}
+use Rattle.replay_model.proofs.AllowedBy.{IsUnknown}
 use Rattle.replay_model.proofs.Allows.{Sound, here, nets_at, settle_starts}
 use Rattle.replay_model.proofs.Bits.{any_in, differ_apart}
-use Rattle.replay_model.proofs.Clocked.{ClockedSound, at_false, at_true, distinct_left}
+use Rattle.replay_model.proofs.Clocked.{distinct_left}
 use Rattle.replay_model.proofs.Clocked as blocks
 use Rattle.replay_model.proofs.Hits.{Way, clean_entry, level_settles, settling_entry, still, sure, told_hit, unsure, visited_hit, way_of}
-use Rattle.replay_model.proofs.Settling.{SettlingSound, in_thing, is_comb-from, level_mentioned, not_assigned-in, run_sound}
-use Rattle.replay_model.proofs.Settling as settling
-use Rattle.replay_model.proofs.Targets.{blocks_assigns, blocks_from}
+use Rattle.replay_model.proofs.Settling.{in_thing, not_assigned-in, run_sound}
+use Rattle.replay_model.proofs.MetValues as met_values
 use Rattle.replay_model.proofs.Trace.{CleanRun, SettleRun, Traced, WeakRun, order_traced, settle_all, settle_keeps, weak_all}
 
-module _ (d : Design) (h : Habit) (dump : BoundDump) (run : Runs) (tables : Tables) (points : List Point) (is : IsReplayOf d h dump run tables points) (laws : StepLaws (machine d) h) (early_law : EarlyLaw (machine d)) (asked : AskedLaws d) (t : ℕ) (window : IsWindow dump (suc t)) (sets : Sets) (are : AreSets d h dump (suc t) sets) (a : Replay) (r : Run) (showing : IsShowing d h dump (suc t) r) (starts : AllowsState a.kept (settled d r t)) (acted : (p : ℕ) → IsComb (process_at d p) → a.acted p ≡ true → IsLeft d p (settled d r t)) where
+module _ (d : Design) (h : Habit) (dump : BoundDump) (run : Runs) (tables : Tables) (points : List Point) (is : IsReplayOf d h dump run tables points) (laws : StepLaws (machine d) h) (early_law : EarlyLaw (machine d)) (asked : AskedLaws d) (t : ℕ) (window : IsWindow dump (suc t)) (sets : Sets) (are : AreSets d h dump (suc t) sets) (a : Replay) (r : Run) (showing : IsShowing d h dump (suc t) r) (starts : AllowsState a.kept (settled d r t)) (acted : (p : ℕ) → IsComb (process_at d p) → a.acted p ≡ true → IsLeft d p (settled d r t)) (unknown : IsUnknown d dump a) where
   abbrev st : Closing
   st = closing_at d dump run tables sets t a
 
@@ -50,38 +48,12 @@ module _ (d : Design) (h : Habit) (dump : BoundDump) (run : Runs) (tables : Tabl
   entry_allowed p s e o =
       blocks.reads_entry d is.lawful h early_law dump is.fits run is.runs tables t sets are a (settled d r t) (settled d r (suc t)) facts starts (λ q. ⊥) (opened st) (record { mid = settled d r t; allowed = starts; start_or = λ c. inl refl; unqueued = λ c none k. refl; final = λ q x. absurd x }) p (λ q x. absurd x) (λ x. x) s e o
 
-  abbrev Mixed : ℕ → Values Bit → Values Bit
-  Mixed p v c = if blocking_target d (body_at d p) c then v c else settled d r (suc t) c
-
   -- an execution on values that agree with the settled ones on the wake cells, and one that the store allows
   pub settled_allowed : (p : ℕ) → (IsClocked (process_at d p) → ⊥) → (k : Kept) → AllowsState k (settled d r (suc t)) → (v : Values Bit) → ((b : Cell) → IsWakeCell (machine d) p b → v b ≡ settled d r (suc t) b) → (x : Values Bit) × AllowsState (settled_kept d p k) x × ((execution d (body_at d p) x).visits ≡ (execution d (body_at d p) v).visits)
-  settled_allowed p settles k ok v wakes = ⊎_elim of_comb of_assign (cases_Bool (is_comb (process_at d p)))
-    where
-      of_assign : is_comb (process_at d p) ≡ false → (x : Values Bit) × AllowsState (settled_kept d p k) x × ((execution d (body_at d p) x).visits ≡ (execution d (body_at d p) v).visits)
-      of_assign e = (settled d r (suc t), λ c. subst (λ z. Allows (if z && body_assigns c.thing (body_at d p) then None else k c) (settled d r (suc t) c)) (sym e) (ok c), asked.assign_visits p (settling.assign_if (process_at d p) settles e) (settled d r (suc t)) v (λ c wake. sym (wakes c wake)))
-
-      of_comb : is_comb (process_at d p) ≡ true → (x : Values Bit) × AllowsState (settled_kept d p k) x × ((execution d (body_at d p) x).visits ≡ (execution d (body_at d p) v).visits)
-      of_comb e = (Mixed p v, reads, settling.same_visits d (body_at d p) (Mixed p v) v agree)
-        where
-          reads : AllowsState (settled_kept d p k) (Mixed p v)
-          reads c =
-              ⊎_elim (λ own. at_true (λ z. Allows z (Mixed p v c)) _ _ _ own tt)
-              (λ other. at_false (λ z. Allows z (Mixed p v c)) _ _ _ other (at_false (Allows (k c)) _ _ _ (not_own other) (ok c))) (cases_Bool (is_comb (process_at d p) && body_assigns c.thing (body_at d p)))
-            where
-              not_own : (is_comb (process_at d p) && body_assigns c.thing (body_at d p)) ≡ false → blocking_target d (body_at d p) c ≡ false
-              not_own f = false_from_ne_true _ (λ b. ⊎_elim (λ x. both_ways _ x e) (λ x. both_ways _ x (blocks_assigns c.thing (body_at d p) (blocks_from d p c b))) (and_cases (is_comb (process_at d p)) _ f))
-
-          agree : (b : Cell) → body_mentions b.thing (body_at d p) ≡ true → Mixed p v b ≡ v b
-          agree b m = ⊎_elim own other (cases_Bool (blocking_target d (body_at d p) b))
-            where
-              own : blocking_target d (body_at d p) b ≡ true → (if blocking_target d (body_at d p) b then v b else settled d r (suc t) b) ≡ v b
-              own f = at_true (λ z. z ≡ v b) (blocking_target d (body_at d p) b) (v b) (settled d r (suc t) b) f refl
-
-              other : blocking_target d (body_at d p) b ≡ false → (if blocking_target d (body_at d p) b then v b else settled d r (suc t) b) ≡ v b
-              other f = at_false (λ z. z ≡ v b) (blocking_target d (body_at d p) b) (v b) (settled d r (suc t) b) f (sym (wakes b (level_mentioned (process_at d p) b.thing settles m, f)))
+  settled_allowed p settles k ok v wakes = met_values.settled_allowed d asked (settled d r (suc t)) p settles k ok v wakes
 
   abbrev pub Good : List ℕ → Working → Type 0
-  Good ps wk = Sound d h dump run tables points is laws early_law t window sets are a r showing starts acted wk × ((q : ℕ) → In q ps → IsClocked (process_at d q) → ⊥)
+  Good ps wk = Sound d h dump run tables points is laws early_law t window sets are a r showing starts acted unknown wk × ((q : ℕ) → In q ps → IsClocked (process_at d q) → ⊥)
 
   -- what the stages tell
   pub clean_told : Traced (CleanRun d is.lawful h early_law dump run is.runs tables t sets are a) (λ q. In q tables.clocked × ((s : ℕ) × (sets.trigger q ≡ Some s))) a.notes (run_all_clean st (clean_order st) (opened st)).notes
@@ -103,12 +75,12 @@ module _ (d : Design) (h : Habit) (dump : BoundDump) (run : Runs) (tables : Tabl
 
   pub order_told : Traced (SettleRun d is.lawful h early_law dump run is.runs tables t sets are a Good) (λ q. In q tables.order × (is_touched st q ≡ true)) (clocked_run st).notes (run_all_settling st true tables.order (settle_start st (clocked_run st))).notes
   order_told =
-      settle_all d is.lawful h early_law dump run is.runs tables t sets are a Good true (next true) tables.order (settle_start st (clocked_run st)) (settle_starts d h dump run tables points is laws early_law t window sets are a r showing starts acted, settles_order)
+      settle_all d is.lawful h early_law dump run is.runs tables t sets are a Good true (next true) tables.order (settle_start st (clocked_run st)) (settle_starts d h dump run tables points is laws early_law t window sets are a r showing starts acted unknown, settles_order)
 
   pub last_told : Traced (SettleRun d is.lawful h early_law dump run is.runs tables t sets are a Good) (λ q. In q tables.last × (is_touched st q ≡ true)) (run_all_settling st true tables.order (settle_start st (clocked_run st))).notes (all_run st).notes
   last_told =
       settle_all d is.lawful h early_law dump run is.runs tables t sets are a Good false (next false) tables.last (run_all_settling st true tables.order (settle_start st (clocked_run st)))
-      ((settle_keeps d is.lawful h early_law dump run is.runs tables t sets are a Good true (next true) tables.order (settle_start st (clocked_run st)) (settle_starts d h dump run tables points is laws early_law t window sets are a r showing starts acted, settles_order)).0, settles_last)
+      ((settle_keeps d is.lawful h early_law dump run is.runs tables t sets are a Good true (next true) tables.order (settle_start st (clocked_run st)) (settle_starts d h dump run tables points is laws early_law t window sets are a r showing starts acted unknown, settles_order)).0, settles_last)
 
   -- what was told before stays told
   pub old_kept : (n : Marking) → In n a.notes → In n (all_run st).notes

@@ -13,7 +13,7 @@ use Rattle.design_model.specs.Design.{Design, Thing, a_signal, body_at, cell, si
 use Rattle.design_model.specs.Mentions.{blocking_target}
 use Rattle.design_model.specs.Machine.{machine}
 use Rattle.design_model.specs.MayMove.{CanWakeSome}
-use Rattle.design_model.specs.Shows.{BoundDump, IsListed, IsShown, IsWindow}
+use Rattle.design_model.specs.Shows.{BoundDump, IsShown, IsWindow}
 use Rattle.design_model.specs.Clear.{clear}
 use Rattle.design_model.proofs.Lawful.{same_bit_is}
 use Rattle.design_model.proofs.Toggles.{window_shown_at}
@@ -32,7 +32,7 @@ use Rattle.replay_model.proofs.Existing.{signal_has}
 use Rattle.replay_model.proofs.Order.{made_all}
 use Rattle.replay_model.proofs.SettleReasons.{bound_clear, differ_from, sure_at}
 
-module _ (h : Habit) (d : Design) (dump : BoundDump) (run : Runs) (tables : Tables) (points : List Point) (is : IsReplayOf d h dump run tables points) (asked : AskedLaws d) (t : ℕ) (sets : Sets) (a : Replay) (window : IsWindow dump (suc t)) (listed : IsListed dump (suc t)) (are : AreSets d h dump (suc t) sets) (at_start : (x : Thing) (bits : List Bit) → clear d h dump t x bits → sure_in d a.kept x bits) (agreed : (c : Cell) → contradicts (closing_at d dump run tables sets t a) c ≡ false) where
+module _ (h : Habit) (d : Design) (dump : BoundDump) (run : Runs) (tables : Tables) (points : List Point) (is : IsReplayOf d h dump run tables points) (asked : AskedLaws d) (t : ℕ) (sets : Sets) (a : Replay) (window : IsWindow dump (suc t)) (are : AreSets d h dump (suc t) sets) (at_start : (x : Thing) (bits : List Bit) → clear d h dump t x bits → sure_in d a.kept x bits) (agreed : (c : Cell) → contradicts (closing_at d dump run tables sets t a) c ≡ false) where
   abbrev st : Closing
   st = closing_at d dump run tables sets t a
 

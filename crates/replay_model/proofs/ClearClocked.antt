@@ -27,7 +27,7 @@ use Rattle.replay_model.specs.Sets.{AreSets, Sets}
 use Rattle.replay_model.specs.Tables.{Tables}
 use Rattle.replay_model.specs.Step.{Closing, Replay, all_run, clean_order, clocked_run, entry_kept, is_dumped, opened, plain_store, run_all_clean}
 use Rattle.replay_model.specs.Laws.{IsReplayOf, closing_at}
-use Rattle.replay_model.proofs.Allows.{past}
+use Rattle.replay_model.proofs.AllowedBy.{past}
 use Rattle.replay_model.proofs.Bits.{all_in}
 use Rattle.replay_model.proofs.ClockedKept.{OwnRun, away_from, clocked_final, clocked_made, clocked_stays, own_left}
 use Rattle.replay_model.proofs.Grows.{Within, sample, sample_agrees, within_agrees, reads_within}
@@ -35,9 +35,9 @@ use Rattle.replay_model.proofs.Reasons.{entry_within, in_owner, map_same, map_su
 use Rattle.replay_model.proofs.SettleReasons.{sure_at}
 use Rattle.replay_model.proofs.Targets.{one_assigner, own_not_early, target_assigns}
 use Rattle.replay_model.proofs.Rounds.{own_not_trigger}
-use Rattle.design_model.specs.Shows.{IsListed, IsWindow}
+use Rattle.design_model.specs.Shows.{IsWindow}
 
-module _ (d : Design) (h : Habit) (early_law : EarlyLaw (machine d)) (dump : BoundDump) (run : Runs) (tables : Tables) (points : List Point) (is : IsReplayOf d h dump run tables points) (asked : AskedLaws d) (t : ℕ) (window : IsWindow dump (suc t)) (listed : IsListed dump (suc t)) (sets : Sets) (are : AreSets d h dump (suc t) sets) (a : Replay) (at_start : (x : Thing) (bits : List Bit) → clear d h dump t x bits → sure_in d a.kept x bits) where
+module _ (d : Design) (h : Habit) (early_law : EarlyLaw (machine d)) (dump : BoundDump) (run : Runs) (tables : Tables) (points : List Point) (is : IsReplayOf d h dump run tables points) (asked : AskedLaws d) (t : ℕ) (window : IsWindow dump (suc t)) (sets : Sets) (are : AreSets d h dump (suc t) sets) (a : Replay) (at_start : (x : Thing) (bits : List Bit) → clear d h dump t x bits → sure_in d a.kept x bits) where
   abbrev st : Closing
   st = closing_at d dump run tables sets t a
 
@@ -92,7 +92,7 @@ module _ (d : Design) (h : Habit) (early_law : EarlyLaw (machine d)) (dump : Bou
           -- what the block knows is sure as it reads
           within0 : Within (EntryFrom d h dump (suc t) (clear d h dump t) p c0) (sure_in d (entry_kept st p s))
           within0 z w known =
-              entry_within d h dump run tables points is early_law asked t window listed sets are a at_start p (run p (plain_store (entry_kept st p s)) (clean (suc t))).notes (record { trigger = s; is_trigger = e; store = plain_store (entry_kept st p s); reads = λ b. refl; notes = refl }) z w
+              entry_within d h dump run tables points is early_law asked t window sets are a at_start p (run p (plain_store (entry_kept st p s)) (clean (suc t))).notes (record { trigger = s; is_trigger = e; store = plain_store (entry_kept st p s); reads = λ b. refl; notes = refl }) z w
               (c0, value.is_clean, subst (λ u. EntryFrom d h dump (suc t) (clear d h dump u) p c0 z w) back known)
             where
               back : t ≡ suc t - 1

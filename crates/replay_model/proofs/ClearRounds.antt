@@ -28,6 +28,7 @@ use Rattle.design_model.proofs.Mentions.{AllReads, execute_reads}
 use Rattle.design_model.proofs.Named.{has_cell-from, WritesCell-from}
 use Rattle.design_model.proofs.WithinMap.{put_append, put_same, within_by}
 use Rattle.design_model.proofs.Untouched.{put_other}
+use Rattle.replay_model.proofs.AllowedBy.{past}
 use Rattle.replay_model.proofs.AskedLaws.{AskedLaws}
 use Rattle.body_replay.specs.Contract.{all_written, sure_in}
 use Rattle.body_replay.specs.Runs.{Runs}
@@ -254,7 +255,7 @@ module _ (d : Design) (h : Habit) (dump : BoundDump) (run : Runs) (tables : Tabl
           where
             below : (j < length d.processes) ⊎ (length d.processes ≤ j) → j < length d.processes
             below (inl lt) = lt
-            below (inr le) = absurd (both_ways false refl (subst (λ z. is_assign z ≡ true) (Rattle.replay_model.proofs.Allows.past d.processes j le) is_a))
+            below (inr le) = absurd (both_ways false refl (subst (λ z. is_assign z ≡ true) (past d.processes j le) is_a))
 
         -- a bit that an Assign of s writes is made
         makes_it : (j : ℕ) → is_assign (process_at d j) ≡ true → body_assigns s (body_at d j) ≡ true → (c : Cell) → c.thing ≡ s → has_cell (execution d (body_at d j) v0).blocking c ≡ true → final c ≡ Some (put_all v0 (execution d (body_at d j) v0).blocking c)
@@ -309,7 +310,7 @@ module _ (d : Design) (h : Habit) (dump : BoundDump) (run : Runs) (tables : Tabl
 
         below : (p < length d.processes) ⊎ (length d.processes ≤ p) → p < length d.processes
         below (inl lt) = lt
-        below (inr le) = absurd (both_ways false refl (subst (λ z. body_assigns s (body z) ≡ true) (Rattle.replay_model.proofs.Allows.past d.processes p le) value.target))
+        below (inr le) = absurd (both_ways false refl (subst (λ z. body_assigns s (body z) ≡ true) (past d.processes p le) value.target))
 
         order : In p tables.order
         order = in_order p (below (cases_lt p (length d.processes)), settles) (comb_not_last K k p s bits value)

@@ -12,7 +12,7 @@ use Rattle.design_model.specs.Design.{AreDistinct, Design, In, IsClocked, body_a
 use Rattle.design_model.specs.Mentions.{body_assigns, body_blocks, body_queues}
 use Rattle.design_model.specs.Execution.{execution}
 use Rattle.design_model.specs.Machine.{machine}
-use Rattle.design_model.specs.Shows.{BoundDump, IsDumpOf}
+use Rattle.design_model.specs.Shows.{BoundDump}
 use Rattle.design_model.specs.MayMove.{CanWakeSome, IsCleanAt}
 use Rattle.design_model.specs.Early.{IsEarlyAt}
 use Rattle.design_model.specs.Lawful.{IsLawfulDesign}
@@ -22,6 +22,7 @@ use Rattle.design_model.proofs.Named.{WritesCell-halves}
 use Rattle.design_model.proofs.WithinMap.{put_append, put_same}
 use Rattle.design_model.proofs.Untouched.{put_other}
 use Rattle.design_model.specs.StepLaws.{CleanEvaluation, StepFacts}
+use Rattle.hidden_times.specs.Hidden.{IsAnyDumpOf}
 use Rattle.body_replay.specs.Contract.{Arises, Outcome, acts, all_written, applies, clean, flushed, same, weak}
 use Rattle.body_replay.specs.KnownBits.{Allows}
 use Rattle.body_replay.specs.Replay.{flush}
@@ -77,7 +78,7 @@ pub distinct_left : (xs ys : List ℕ) → AreDistinct (xs ++ ys) → AreDistinc
 distinct_left [] ys once = tt
 distinct_left (x ∷ xs) ys once = (λ h. once.0 (in_left x xs ys h), distinct_left xs ys once.1)
 
-module _ (d : Design) (lawful : IsLawfulDesign d) (h : Habit) (early_law : EarlyLaw (machine d)) (dump : BoundDump) (fits : IsDumpOf d dump) (run : Runs) (runs : AreRuns d run) (tables : Tables) (t : ℕ) (sets : Sets) (are : AreSets d h dump (suc t) sets) (a : Replay) (u w : Values Bit) (facts : StepFacts d h dump t u w) (starts : AllowsState a.kept u) where
+module _ (d : Design) (lawful : IsLawfulDesign d) (h : Habit) (early_law : EarlyLaw (machine d)) (dump : BoundDump) (fits : IsAnyDumpOf d dump) (run : Runs) (runs : AreRuns d run) (tables : Tables) (t : ℕ) (sets : Sets) (are : AreSets d h dump (suc t) sets) (a : Replay) (u w : Values Bit) (facts : StepFacts d h dump t u w) (starts : AllowsState a.kept u) where
   abbrev st : Closing
   st = closing_at d dump run tables sets t a
 

@@ -12,7 +12,7 @@ use Rattle.design_model.specs.Design.{Design, In, IsClocked, IsComb, Thing, a_si
 use Rattle.design_model.specs.Mentions.{blocking_target, body_assigns, body_mentions, has_cell}
 use Rattle.design_model.specs.Execution.{execution, execution_start}
 use Rattle.design_model.specs.Machine.{is_level, machine}
-use Rattle.design_model.specs.Shows.{BoundDump, IsListed, IsWindow}
+use Rattle.design_model.specs.Shows.{BoundDump, IsWindow}
 use Rattle.design_model.specs.Reads.{Agrees, ReadsWithin}
 use Rattle.design_model.specs.Clear.{HasChanged, clear}
 use Rattle.design_model.proofs.Assigns.{machine_lawful}
@@ -31,7 +31,7 @@ use Rattle.replay_model.specs.Step.{Closing, Replay, Working, acts, after_settli
 use Rattle.replay_model.specs.Stands.{IsMade, made_kept}
 use Rattle.replay_model.specs.Laws.{IsReplayOf, closing_at}
 use Rattle.replay_model.proofs.Acted.{clocked_acted}
-use Rattle.replay_model.proofs.Allows.{past}
+use Rattle.replay_model.proofs.AllowedBy.{past}
 use Rattle.replay_model.proofs.Bits.{any_in, in_any, none_in}
 use Rattle.replay_model.proofs.Clocked.{at_false, at_true}
 use Rattle.replay_model.proofs.ClearRounds.{inside_as, read_in, signal_dumped}
@@ -49,7 +49,7 @@ in_numbers : (n k s : ℕ) → n ≤ s → s < n + k → In s (range_with_len n 
 in_numbers n zero s le lt = absurd (omega (arith, le, lt))
 in_numbers n (suc k) s le lt = ⊎_elim (λ e. inl e) (λ ne. inr (in_numbers (n + 1) k s (omega (arith, le, ne)) (omega (arith, lt)))) (cases_eq n s)
 
-module _ (h : Habit) (d : Design) (dump : BoundDump) (run : Runs) (tables : Tables) (points : List Point) (is : IsReplayOf d h dump run tables points) (asked : AskedLaws d) (t : ℕ) (sets : Sets) (a : Replay) (window : IsWindow dump (suc t)) (listed : IsListed dump (suc t)) (are : AreSets d h dump (suc t) sets) (at_start : (x : Thing) (bits : List Bit) → clear d h dump t x bits → sure_in d a.kept x bits) (agreed : (c : Cell) → contradicts (closing_at d dump run tables sets t a) c ≡ false) where
+module _ (h : Habit) (d : Design) (dump : BoundDump) (run : Runs) (tables : Tables) (points : List Point) (is : IsReplayOf d h dump run tables points) (asked : AskedLaws d) (t : ℕ) (sets : Sets) (a : Replay) (window : IsWindow dump (suc t)) (are : AreSets d h dump (suc t) sets) (at_start : (x : Thing) (bits : List Bit) → clear d h dump t x bits → sure_in d a.kept x bits) (agreed : (c : Cell) → contradicts (closing_at d dump run tables sets t a) c ≡ false) where
   abbrev st : Closing
   st = closing_at d dump run tables sets t a
 
@@ -57,7 +57,7 @@ module _ (h : Habit) (d : Design) (dump : BoundDump) (run : Runs) (tables : Tabl
   final = (all_run st).kept
 
   moves_with : (q : ℕ) (c : Cell) → IsTarget (machine d) q c → (is_touched st q ≡ true) ⊎ Rattle.design_model.specs.MayMove.CanWakeSome d dump (suc t) q → sets.moves c.thing ≡ true
-  moves_with = target_moves h d dump run tables points is asked t sets a window listed are at_start agreed
+  moves_with = target_moves h d dump run tables points is asked t sets a window are at_start agreed
 
   start_dumped : (c : Cell) → is_dumped d dump.bound c ≡ true → a.kept c ≡ Some (dump.values t c)
   start_dumped c has =
@@ -84,7 +84,7 @@ module _ (h : Habit) (d : Design) (dump : BoundDump) (run : Runs) (tables : Tabl
   calm_same c calm = ⊎_elim dumped' (λ e. undumped_same c e (λ q at woken. both_ways _ calm (moves_with q c at woken))) (cases_Bool (is_dumped d dump.bound c))
     where
       dumped' : is_dumped d dump.bound c ≡ true → final c ≡ a.kept c
-      dumped' e = final_dumped d h (early_law (machine d)) dump run tables points is t sets are a c e ∙ ap Some (sym (calm_dumped h d dump run tables points is asked t sets a window listed are at_start agreed c e calm)) ∙ sym (start_dumped c e)
+      dumped' e = final_dumped d h (early_law (machine d)) dump run tables points is t sets are a c e ∙ ap Some (sym (calm_dumped h d dump run tables points is asked t sets a window are at_start agreed c e calm)) ∙ sym (start_dumped c e)
 
   module _ (p : ℕ) (settles : IsClocked (process_at d p) → ⊥) (untouched : is_touched st p ≡ false) where
     calm_level : (x : ℕ) → is_level (process_at d p) x ≡ true → sets.moves x ≡ false
@@ -106,7 +106,7 @@ module _ (h : Habit) (d : Design) (dump : BoundDump) (run : Runs) (tables : Tabl
         of_dump has =
             final_dumped d h (early_law (machine d)) dump run tables points is t sets are a c has
             ∙ ap Some (sym (made_dumped d h (early_law (machine d)) dump run tables points is t sets are a c (agreed c) has (target_plain d h (early_law (machine d)) dump run tables points is t sets are a p settles c target) (dump.values t c)
-            (made_start h d dump run tables points is asked t sets a window listed are at_start agreed c (never c target) ∙ start_dumped c has)))
+            (made_start h d dump run tables points is asked t sets a window are at_start agreed c (never c target) ∙ start_dumped c has)))
             ∙ sym (start_dumped c has)
 
     abbrev mixed : Values Bit
@@ -220,7 +220,7 @@ module _ (h : Habit) (d : Design) (dump : BoundDump) (run : Runs) (tables : Tabl
       touched =
           in_any sets.moves (tables.watched p) s ((is.tabled.watched p s).1 (level_mentioned (process_at d p) s (not_clocked (process_at d p) is_comb') mention))
           (true_from_ne_false _
-          (λ calm. differ (map_same (dump.values t) (dump.values (suc t)) (signal_cells d s) (λ c inside. calm_dumped h d dump run tables points is asked t sets a window listed are at_start agreed c (dumped_cell c inside) (subst (λ z. sets.moves z ≡ false) (sym (in_signal d s c inside).0) calm)))))
+          (λ calm. differ (map_same (dump.values t) (dump.values (suc t)) (signal_cells d s) (λ c inside. calm_dumped h d dump run tables points is asked t sets a window are at_start agreed c (dumped_cell c inside) (subst (λ z. sets.moves z ≡ false) (sym (in_signal d s c inside).0) calm)))))
 
       by_order : In p tables.order → (all_run st).acted p ≡ true
       by_order x = all_more false tables.last (run_all_settling st true tables.order (settle_start st (clocked_run st))) p (acts_here true tables.order (settle_start st (clocked_run st)) p x touched sees)

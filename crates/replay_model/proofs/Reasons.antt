@@ -12,7 +12,7 @@ use Rattle.design_model.specs.declared.point.Point.TheVariants.{Line as line_poi
 use Rattle.design_model.specs.Design.{Design, In, IsThing, Thing, a_signal, a_word, body_at, cell, cells, memory_at, owner, process_at, signal_at, signal_cells, thing_bits}
 use Rattle.design_model.specs.Execution.{Visit}
 use Rattle.design_model.specs.Machine.{machine}
-use Rattle.design_model.specs.Shows.{BoundDump, IsListed, IsWindow}
+use Rattle.design_model.specs.Shows.{BoundDump, IsWindow}
 use Rattle.design_model.specs.MayMove.{IsCleanAt}
 use Rattle.design_model.specs.Early.{IsEarlyAt}
 use Rattle.design_model.specs.Points.{IsBlock}
@@ -88,7 +88,7 @@ surely_spot d K b (arc_point i name s from to old new) is = absurd is
 surely_spot d K b (word_point m k true) is = (word_write m k, refl)
 surely_spot d K b (word_point m k false) is = (word_read m k, refl)
 
-module _ (d : Design) (h : Habit) (dump : BoundDump) (run : Runs) (tables : Tables) (points : List Point) (is : IsReplayOf d h dump run tables points) (early_law : EarlyLaw (machine d)) (asked : AskedLaws d) (t : ℕ) (window : IsWindow dump (suc t)) (listed : IsListed dump (suc t)) (sets : Sets) (are : AreSets d h dump (suc t) sets) (a : Replay) (at_start : (x : Thing) (bits : List Bit) → clear d h dump t x bits → sure_in d a.kept x bits) where
+module _ (d : Design) (h : Habit) (dump : BoundDump) (run : Runs) (tables : Tables) (points : List Point) (is : IsReplayOf d h dump run tables points) (early_law : EarlyLaw (machine d)) (asked : AskedLaws d) (t : ℕ) (window : IsWindow dump (suc t)) (sets : Sets) (are : AreSets d h dump (suc t) sets) (a : Replay) (at_start : (x : Thing) (bits : List Bit) → clear d h dump t x bits → sure_in d a.kept x bits) where
   abbrev st : Closing
   st = closing_at d dump run tables sets t a
 

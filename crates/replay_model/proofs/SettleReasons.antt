@@ -2,7 +2,7 @@
 use Rattle.std.proofs.Common.{◌≡◌, ◌≢◌, ◌⊎◌, inl, inr, ⊎_elim, ℕ, zero, suc, ◌-◌, ◌+◌, ◌*◌, ◌<◌, ◌≤◌, Bool, true, false, not, ◌&&◌, List, [], ◌∷◌, map, length, refl, sym, ap, ap₂, subst, ◌∙◌, arith, Option, Some, None, if◌then◌else◌}
 use Rattle.std.specs.Prelude.{nat_le, nat_lt, min, max, slice_index_or}
 use Rattle.std.specs.List.{list_any, list_all, range_with_len}
-use Rattle.std.proofs.lemmas.Bool.{and_parts, and_from, and_right, and_cases, both_ways, cases_Bool, cases_lt, false_from_ne_true, leb-true, le-leb, lt-ltb, ltb-true, ltb-false, not-true, not-false, not_from_true, not_from_false, or_parts, true_from_ne_false}
+use Rattle.std.proofs.lemmas.Bool.{and_parts, and_from, and_right, and_cases, both_ways, cases_Bool, cases_lt, false_from_ne_true, leb-true, le-leb, lt-ltb, ltb-true, ltb-false, not-false, not_from_false, or_parts}
 use Rattle.std.proofs.Math.Nat.{le-max_left, min-le_left}
 use Rattle.event_machine.specs.Cell.{Cell, Values}
 use Rattle.event_machine.specs.Habit.{Habit}
@@ -14,12 +14,12 @@ use Rattle.design_model.specs.Design.{Design, In, no_memory, IsClocked, IsThing,
 use Rattle.design_model.specs.Mentions.{blocking_target, body_assigns, body_mentions}
 use Rattle.design_model.specs.Paths.{ReadsUnwritten, paths, reads_signal_unwritten}
 use Rattle.design_model.specs.Machine.{is_level, machine}
-use Rattle.design_model.specs.Shows.{BoundDump, IsListed, IsShown, IsWindow}
+use Rattle.design_model.specs.Shows.{BoundDump, IsShown, IsWindow}
 use Rattle.design_model.specs.Points.{IsBlock}
 use Rattle.design_model.specs.Reads.{ReadsWithin}
 use Rattle.design_model.specs.Clear.{clear, clear_before, of_dump}
 use Rattle.design_model.specs.Open.{HasChangedWakeBit, IsOpen, IsOpenFor, KnownAtEnd, ReachesFrom}
-use Rattle.design_model.specs.Doubt.{BlockDoubt, IsInDoubt, IsUnclear, of_block}
+use Rattle.design_model.specs.Doubt.{BlockDoubt, IsInDoubt, IsUnclear, MayWakeUnlisted, of_block}
 use Rattle.replay_model.proofs.Causes.{doubt_own, doubt_signal, doubt_word}
 use Rattle.design_model.proofs.Lawful.{same_bit_is}
 use Rattle.replay_model.proofs.AskedLaws.{AskedLaws}
@@ -114,7 +114,7 @@ memory_below d m i c above inside = ⊎_elim (λ lt. lt) (λ le. absurd (empty l
         width : length d.signals + length d.memories ≤ m → (memory_at d m).width ≡ 0
         width le = ap (λ b. (if b then slice_index_or d.memories (m - length d.signals) no_memory else no_memory).width) (le-leb _ _ above) ∙ past_memories d.memories (m - length d.signals) (omega (arith, le))
 
-module _ (d : Design) (h : Habit) (early_law : EarlyLaw (machine d)) (dump : BoundDump) (run : Runs) (tables : Tables) (points : List Point) (is : IsReplayOf d h dump run tables points) (asked : AskedLaws d) (t : ℕ) (window : IsWindow dump (suc t)) (listed : IsListed dump (suc t)) (sets : Sets) (are : AreSets d h dump (suc t) sets) (a : Replay) (at_start : (x : Thing) (bits : List Bit) → clear d h dump t x bits → sure_in d a.kept x bits) (at_end : (x : Thing) (bits : List Bit) → clear d h dump (suc t) x bits → sure_in d (all_run (closing_at d dump run tables sets t a)).kept x bits) where
+module _ (d : Design) (h : Habit) (early_law : EarlyLaw (machine d)) (dump : BoundDump) (run : Runs) (tables : Tables) (points : List Point) (is : IsReplayOf d h dump run tables points) (asked : AskedLaws d) (t : ℕ) (window : IsWindow dump (suc t)) (sets : Sets) (are : AreSets d h dump (suc t) sets) (a : Replay) (at_start : (x : Thing) (bits : List Bit) → clear d h dump t x bits → sure_in d a.kept x bits) (at_end : (x : Thing) (bits : List Bit) → clear d h dump (suc t) x bits → sure_in d (all_run (closing_at d dump run tables sets t a)).kept x bits) where
   abbrev st : Closing
   st = closing_at d dump run tables sets t a
 
@@ -124,6 +124,10 @@ module _ (d : Design) (h : Habit) (early_law : EarlyLaw (machine d)) (dump : Bou
   module _ (p : ℕ) (ns : List Note) (k : MeetingRun d h early_law dump run tables points is t sets are a p ns) where
     settles : IsClocked (process_at d p) → ⊥
     settles = let x = any_in sets.moves (tables.watched p) k.touched in level_settles (process_at d p) x.0 ((is.tabled.watched p x.0).0 x.1)
+
+    -- something that the process watches may move
+    wakes : MayWakeUnlisted d dump (suc t) p
+    wakes = let x = any_in sets.moves (tables.watched p) k.touched in inr (x.0, (is.tabled.watched p x.0).0 x.1, (are.moves x.0).0 x.2)
 
     -- what is met, and elsewhere what is known at the end
     abbrev met : Kept
@@ -208,7 +212,7 @@ module _ (d : Design) (h : Habit) (early_law : EarlyLaw (machine d)) (dump : Bou
 
       of_comb : body_assigns y (body_at d p) ≡ true → is_comb (process_at d p) ≡ true → BlockDoubt d h dump (suc t) y p
       of_comb mine e =
-          doubt_own (is_comb-from (process_at d p) e) (inl listed) mine
+          doubt_own (is_comb-from (process_at d p) e) wakes mine
           (⊎_elim (λ f. in_any (reads_signal_unwritten d y []) (paths [] (body_at d p)) bare.0 bare.1 f)
           (λ f. absurd (omega (arith, is.lawful.comb_writes p y (is_comb-from (process_at d p) e) mine, leb-true (length d.signals) y (and_parts (nat_le (length d.signals) y) _ f.0).0))) bare.2)
 
@@ -236,16 +240,16 @@ module _ (d : Design) (h : Habit) (early_law : EarlyLaw (machine d)) (dump : Bou
       of_assign : body_assigns y (body_at d p) ≡ true → is_comb (process_at d p) ≡ false → BlockDoubt d h dump (suc t) y p
       of_assign mine e =
           ⊎_elim (λ bound. absurd (not_bound e bound b.0 b.1 b.2 b.3.0 b.3.1 b.3.2))
-          (λ free. let j = asked.own_wake p y (assign_if (process_at d p) settles e) mentioned mine in doubt_signal j.0 settles (inl listed) j.1 (inr (asked.own_unclear h dump (suc t) p y (assign_if (process_at d p) settles e) mentioned mine free))) (cases_Bool (dump.bound y))
+          (λ free. let j = asked.own_wake p y (assign_if (process_at d p) settles e) mentioned mine in doubt_signal j.0 settles wakes j.1 (inr (asked.own_unclear h dump (suc t) p y (assign_if (process_at d p) settles e) mentioned mine free))) (cases_Bool (dump.bound y))
 
       of_other : body_assigns y (body_at d p) ≡ false → (x : Thing) → owner x ≡ y → IsThing d x → (c : Cell) → In c (cells d x) → settled_kept d p met c ≡ None → BlockDoubt d h dump (suc t) y p
       of_other other (a_signal q) own is_thing c inside none =
-          doubt_signal c.place settles (inl listed)
+          doubt_signal c.place settles wakes
           (subst (λ z. z < length d.signals) own is_thing, subst (λ z. c.place < (signal_at d z).width) own (in_signal d q c inside).1, (level_mentioned (process_at d p) y settles mentioned, not_blocked (cell y c.place) other))
           (inr (λ v. sure_bit (all_run st).kept (cells d (a_signal y)) v.0 (at_end (a_signal y) v.0 v.1) c (subst (λ z. In c (signal_cells d z)) own inside) (sym (read_final c (subst (λ z. body_assigns z (body_at d p) ≡ false) (sym ((in_signal d q c inside).0 ∙ own)) other)) ∙ none)))
       of_other other (a_word m i) own is_thing c inside none =
           subst (λ z. BlockDoubt d h dump (suc t) z p) own
-          (doubt_word i settles (inl listed) (subst (λ z. body_mentions z (body_at d p) ≡ true) (sym own) mentioned) is_thing
+          (doubt_word i settles wakes (subst (λ z. body_mentions z (body_at d p) ≡ true) (sym own) mentioned) is_thing
           (inr (λ v. sure_bit (all_run st).kept (cells d (a_word m i)) v.0 (at_end (a_word m i) v.0 v.1) c inside (sym (read_final c (subst (λ z. body_assigns z (body_at d p) ≡ false) (sym (in_owner d (a_word m i) c inside ∙ own)) other)) ∙ none))) (inl (inr (untold, subst (λ z. body_mentions z (body_at d p) ≡ true) (sym own) mentioned, is_thing))))
 
       why : BlockDoubt d h dump (suc t) y p
@@ -275,14 +279,14 @@ module _ (d : Design) (h : Habit) (early_law : EarlyLaw (machine d)) (dump : Bou
         of_signal : (f : (c : Cell) × In c (wake_cells d p x) × (surely_same (a.kept c) (k.wk.kept c) ≡ false)) → nat_lt x (length d.signals) ≡ true → In f.0 (signal_cells d x) → BlockDoubt d h dump (suc t) x p
         of_signal f is_signal inside =
             let at = in_signal d x f.0 inside in
-            doubt_signal f.0.place settles (inl listed) (ltb-true _ _ is_signal, at.1, (level, subst (λ z. blocking_target d (body_at d p) z ≡ false) (λ i. record { thing = at.0 i; place = f.0.place }) (not_assigned-in d p (all_cells d x) f.0 f.1).1)) (unclear f (a_signal x) refl inside)
+            doubt_signal f.0.place settles wakes (ltb-true _ _ is_signal, at.1, (level, subst (λ z. blocking_target d (body_at d p) z ≡ false) (λ i. record { thing = at.0 i; place = f.0.place }) (not_assigned-in d p (all_cells d x) f.0 f.1).1)) (unclear f (a_signal x) refl inside)
 
         of_memory : (f : (c : Cell) × In c (wake_cells d p x) × (surely_same (a.kept c) (k.wk.kept c) ≡ false)) → nat_lt x (length d.signals) ≡ false → In f.0 (words_cells d x (word_indexes d x)) → BlockDoubt d h dump (suc t) x p
         of_memory f no_signal inside =
             let w = in_words d x (word_indexes d x) f.0 inside in
             let is_mem : is_memory d x ≡ true = and_from (nat_le (length d.signals) x) _ (le-leb _ _ (ltb-false _ _ no_signal)) (lt-ltb _ _ (memory_below d x w.0 f.0 (ltb-false _ _ no_signal) w.2)) in
             let range = in_range (min (memory_at d x).first (memory_at d x).last) (max (memory_at d x).first (memory_at d x).last - min (memory_at d x).first (memory_at d x).last + 1) w.0 w.1 in
-            doubt_word w.0 settles (inl listed) (asked.listed_memory p x level is_mem) (is_mem, range.0, span_end (memory_at d x).first (memory_at d x).last w.0 range.1) (unclear f (a_word x w.0) refl w.2) (inr ((are.moves x).0 (not-false _ (or_parts (not (sets.moves x)) _ not_still).0)))
+            doubt_word w.0 settles wakes (asked.listed_memory p x level is_mem) (is_mem, range.0, span_end (memory_at d x).first (memory_at d x).last w.0 range.1) (unclear f (a_word x w.0) refl w.2) (inr ((are.moves x).0 (not-false _ (or_parts (not (sets.moves x)) _ not_still).0)))
 
         go : (b : Bool) → nat_lt x (length d.signals) ≡ b → In found.0 (if b then signal_cells d x else words_cells d x (word_indexes d x)) → BlockDoubt d h dump (suc t) x p
         go true e inside = of_signal found e inside

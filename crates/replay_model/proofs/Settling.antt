@@ -13,12 +13,13 @@ use Rattle.design_model.specs.Mentions.{blocking_target, body_assigns, body_ment
 use Rattle.design_model.specs.Execution.{Visit, at_line, at_node, execution, execution_start, reads, writes_word}
 use Rattle.design_model.specs.Reads.{Agrees, AllInside, PartialMap}
 use Rattle.design_model.specs.Machine.{is_level, machine}
-use Rattle.design_model.specs.Shows.{BoundDump, IsDumpOf}
+use Rattle.design_model.specs.Shows.{BoundDump}
 use Rattle.design_model.specs.Lawful.{IsLawfulDesign, target_once}
 use Rattle.design_model.proofs.Lawful.{any_weaker}
 use Rattle.design_model.proofs.Mentions.{AllReads, execute_reads}
 use Rattle.design_model.proofs.Sound.{cells_eq}
 use Rattle.design_model.proofs.WithinMap.{execution_same, inside_outer, put_same, within_blocking, within_nonblocking}
+use Rattle.hidden_times.specs.Hidden.{IsAnyDumpOf}
 use Rattle.body_replay.specs.Contract.{Certainty, IsStrong, Outcome, all_written, clean, flushed}
 use Rattle.body_replay.specs.KnownBits.{Allows}
 use Rattle.body_replay.specs.Runs.{AreRuns, Runs}
@@ -179,7 +180,7 @@ clean_way st k p e = go (list_any (has_changed st k p) (st.tables.watched p)) e
     go true f = refl
     go false f = unsure (first_unsure st k p (st.tables.watched p)) f
 
-module _ (d : Design) (lawful : IsLawfulDesign d) (h : Habit) (dump : BoundDump) (fits : IsDumpOf d dump) (run : Runs) (runs : AreRuns d run) (tables : Tables) (tabled : AreTables d dump.bound tables) (t : ℕ) (sets : Sets) (a : Replay) (u w : Values Bit) (facts : StepFacts d h dump t u w) (starts : AllowsState a.kept u) (nets : (p : ℕ) (c : Cell) → is_assign (process_at d p) ≡ true → (machine d).blocking p c ≡ true → w c ≡ put_all w (output (machine d) p w) c) where
+module _ (d : Design) (lawful : IsLawfulDesign d) (h : Habit) (dump : BoundDump) (fits : IsAnyDumpOf d dump) (run : Runs) (runs : AreRuns d run) (tables : Tables) (tabled : AreTables d dump.bound tables) (t : ℕ) (sets : Sets) (a : Replay) (u w : Values Bit) (facts : StepFacts d h dump t u w) (starts : AllowsState a.kept u) (nets : (p : ℕ) (c : Cell) → is_assign (process_at d p) ≡ true → (machine d).blocking p c ≡ true → w c ≡ put_all w (output (machine d) p w) c) where
   abbrev pub st : Closing
   st = closing_at d dump run tables sets t a
 

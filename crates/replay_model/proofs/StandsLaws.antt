@@ -17,18 +17,18 @@ first_stands_law d h dump run tables points is own t first shown agreed =
     }
 
 pub step_stands_law : (h : Habit) → StepStandsLaw h
-step_stands_law h d dump run tables points is own t sets a window listed are agreed stands =
+step_stands_law h d dump run tables points is own t sets a window are agreed stands =
     record {
-      sound = step_sound_law h d dump run tables points is own t sets a window listed are stands.sound;
-      known = step_known_law h d dump run tables points is own t sets a window listed are stands.known agreed;
-      reasoned = step_reasoned_law h d dump run tables points is own t sets a window listed are stands.known agreed stands.reasoned;
-      forced = step_forced_law h d dump run tables points is own t sets a window listed are stands.known agreed stands.forced;
+      sound = step_sound_law h d dump run tables points is own t sets a window are stands.sound;
+      known = step_known_law h d dump run tables points is own t sets a window are stands.known agreed;
+      reasoned = step_reasoned_law h d dump run tables points is own t sets a window are stands.known agreed stands.reasoned;
+      forced = step_forced_law h d dump run tables points is own t sets a window are stands.known agreed stands.forced;
     }
 
 pub rest_stands_law : RestStandsLaw
-rest_stands_law d h dump run tables points is own t a window unlisted stands =
+rest_stands_law d h dump run tables points is own t a calm window unlisted stands =
     record {
-      sound = rest_sound_law d h dump run tables points is t a window unlisted stands.sound;
+      sound = rest_sound_law d h dump run tables points is t a calm window unlisted stands.sound;
       known = rest_known_law d h dump run tables points is own t a window unlisted stands.known;
       reasoned = rest_reasoned_law d h dump run tables points is t a window unlisted stands.reasoned;
       forced = rest_forced_law d h dump t unlisted stands.forced;

@@ -8,11 +8,13 @@ use Rattle.design_model.specs.declared.point.Point.{Point}
 use Rattle.design_model.specs.declared.point.Point.TheVariants.{Arc as arc_point, Toggle as toggle_point}
 use Rattle.design_model.specs.Design.{Design, In}
 use Rattle.design_model.specs.Run.{IsRun, Run}
-use Rattle.design_model.specs.Shows.{BoundDump, IsDumpOf, IsFirst, IsListed, IsShowing, IsShown, IsWindow, Shows}
+use Rattle.design_model.specs.Shows.{BoundDump, IsFirst, IsListed, IsShowing, IsShown, IsWindow, Shows}
 use Rattle.design_model.specs.Points.{IsHit, IsHitAt, IsPoint}
 use Rattle.design_model.specs.Doubt.{IsInDoubt}
 use Rattle.design_model.specs.Open.{IsReached}
 use Rattle.design_model.specs.Lawful.{IsLawfulDesign}
+use Rattle.design_model.specs.MayMove.{AreLastRounds}
+use Rattle.hidden_times.specs.Hidden.{IsAnyDumpOf, IsCalm, is_listed}
 use Rattle.model_laws.specs.Own.{HasOwnWakes}
 use Rattle.body_replay.specs.Contract.{Doubted}
 use Rattle.body_replay.specs.Runs.{AreRuns, Runs}
@@ -26,7 +28,8 @@ use Rattle.replay_model.specs.Stands.{AreForced, AreKnown, AreReasoned, IsSound,
 -- what is taken for granted of a replay: a lawful design, its tables, runs of its bodies, and points of which the toggles are of bits of its signals
 pub record IsReplayOf (d : Design) (h : Habit) (dump : BoundDump) (run : Runs) (tables : Tables) (points : List Point) : Type 0 where
   pub lawful : IsLawfulDesign d
-  pub fits : IsDumpOf d dump
+  pub fits : IsAnyDumpOf d dump
+  pub rounds : AreLastRounds d dump
   pub runs : AreRuns d run
   pub tabled : AreTables d dump.bound tables
   pub toggles : (s i : ℕ) (rise : Bool) → In (toggle_point s i rise) points → IsPoint d [] (toggle_point s i rise)
@@ -42,6 +45,7 @@ closing_at d dump run tables sets t a =
       tables = tables;
       sets = sets;
       time = suc t;
+      listed = is_listed dump (suc t);
       new = dump.values (suc t);
       start = a;
     }
@@ -61,14 +65,14 @@ FirstSoundLaw =
 abbrev pub StepSoundLaw : Habit → Type 0
 StepSoundLaw h =
     (d : Design) (dump : BoundDump) (run : Runs) (tables : Tables) (points : List Point) → IsReplayOf d h dump run tables points → HasOwnWakes d
-    → (t : ℕ) (sets : Sets) (a : Replay) → IsWindow dump (suc t) → IsListed dump (suc t) → AreSets d h dump (suc t) sets → IsSound d h dump points t a
+    → (t : ℕ) (sets : Sets) (a : Replay) → IsWindow dump (suc t) → AreSets d h dump (suc t) sets → IsSound d h dump points t a
     → IsSound d h dump points (suc t) (closed_at d dump run tables points sets t a)
 
--- a time that the dump does not list keeps it sound
+-- so does a time that the dump does not list, where each input is bound or the time before is one that the dump does not list
 abbrev pub RestSoundLaw : Type 0
 RestSoundLaw =
     (d : Design) (h : Habit) (dump : BoundDump) (run : Runs) (tables : Tables) (points : List Point) → IsReplayOf d h dump run tables points
-    → (t : ℕ) (a : Replay) → IsWindow dump (suc t) → (IsListed dump (suc t) → ⊥) → IsSound d h dump points t a
+    → (t : ℕ) (a : Replay) → IsCalm d dump t → IsWindow dump (suc t) → (IsListed dump (suc t) → ⊥) → IsSound d h dump points t a
     → IsSound d h dump points (suc t) a
 
 -- Known laws: where there was no contradiction, what is clear is sure after the first step.
@@ -82,7 +86,7 @@ FirstKnownLaw =
 abbrev pub StepKnownLaw : Habit → Type 0
 StepKnownLaw h =
     (d : Design) (dump : BoundDump) (run : Runs) (tables : Tables) (points : List Point) → IsReplayOf d h dump run tables points → HasOwnWakes d
-    → (t : ℕ) (sets : Sets) (a : Replay) → IsWindow dump (suc t) → IsListed dump (suc t) → AreSets d h dump (suc t) sets
+    → (t : ℕ) (sets : Sets) (a : Replay) → IsWindow dump (suc t) → AreSets d h dump (suc t) sets
     → AreKnown d h dump tables t a → ((c : Cell) → contradicts (closing_at d dump run tables sets t a) c ≡ false)
     → AreKnown d h dump tables (suc t) (closed_at d dump run tables points sets t a)
 
@@ -97,7 +101,7 @@ RestKnownLaw =
 abbrev pub StepReasonedLaw : Habit → Type 0
 StepReasonedLaw h =
     (d : Design) (dump : BoundDump) (run : Runs) (tables : Tables) (points : List Point) → IsReplayOf d h dump run tables points → HasOwnWakes d
-    → (t : ℕ) (sets : Sets) (a : Replay) → IsWindow dump (suc t) → IsListed dump (suc t) → AreSets d h dump (suc t) sets
+    → (t : ℕ) (sets : Sets) (a : Replay) → IsWindow dump (suc t) → AreSets d h dump (suc t) sets
     → AreKnown d h dump tables t a → ((c : Cell) → contradicts (closing_at d dump run tables sets t a) c ≡ false) → AreReasoned d h dump t a
     → AreReasoned d h dump (suc t) (closed_at d dump run tables points sets t a)
 
@@ -119,7 +123,7 @@ FirstForcedLaw =
 abbrev pub StepForcedLaw : Habit → Type 0
 StepForcedLaw h =
     (d : Design) (dump : BoundDump) (run : Runs) (tables : Tables) (points : List Point) → IsReplayOf d h dump run tables points → HasOwnWakes d
-    → (t : ℕ) (sets : Sets) (a : Replay) → IsWindow dump (suc t) → IsListed dump (suc t) → AreSets d h dump (suc t) sets
+    → (t : ℕ) (sets : Sets) (a : Replay) → IsWindow dump (suc t) → AreSets d h dump (suc t) sets
     → AreKnown d h dump tables t a → ((c : Cell) → contradicts (closing_at d dump run tables sets t a) c ≡ false) → AreForced d h dump t
     → AreForced d h dump (suc t)
 
@@ -139,7 +143,7 @@ FirstStandsLaw =
 abbrev pub StepStandsLaw : Habit → Type 0
 StepStandsLaw h =
     (d : Design) (dump : BoundDump) (run : Runs) (tables : Tables) (points : List Point) → IsReplayOf d h dump run tables points → HasOwnWakes d
-    → (t : ℕ) (sets : Sets) (a : Replay) → IsWindow dump (suc t) → IsListed dump (suc t) → AreSets d h dump (suc t) sets
+    → (t : ℕ) (sets : Sets) (a : Replay) → IsWindow dump (suc t) → AreSets d h dump (suc t) sets
     → ((c : Cell) → contradicts (closing_at d dump run tables sets t a) c ≡ false) → Stands d h dump tables points t a
     → Stands d h dump tables points (suc t) (closed_at d dump run tables points sets t a)
 
@@ -147,7 +151,7 @@ StepStandsLaw h =
 abbrev pub RestStandsLaw : Type 0
 RestStandsLaw =
     (d : Design) (h : Habit) (dump : BoundDump) (run : Runs) (tables : Tables) (points : List Point) → IsReplayOf d h dump run tables points
-    → HasOwnWakes d → (t : ℕ) (a : Replay) → IsWindow dump (suc t) → (IsListed dump (suc t) → ⊥) → Stands d h dump tables points t a
+    → HasOwnWakes d → (t : ℕ) (a : Replay) → IsCalm d dump t → IsWindow dump (suc t) → (IsListed dump (suc t) → ⊥) → Stands d h dump tables points t a
     → Stands d h dump tables points (suc t) a
 
 -- Contradiction law: where the replay contradicts, no run shows the dump up to that time.
@@ -192,6 +196,7 @@ SoundVerdictLaw =
 -- where what it reports is reasoned too, so are its verdicts
 abbrev pub ReasonedVerdictLaw : Type 0
 ReasonedVerdictLaw =
-    (d : Design) (h : Habit) (dump : BoundDump) (points : List Point) (t : ℕ) (a : Replay) → ((u : ℕ) → IsWindow dump u → u ≤ t) → IsShown dump t
+    (d : Design) (h : Habit) (dump : BoundDump) (points : List Point) (t : ℕ) (a : Replay) → IsLawfulDesign d → IsAnyDumpOf d dump → AreLastRounds d dump
+    → ((u : ℕ) → IsWindow dump u → u ≤ t) → IsShown dump t
     → IsSound d h dump points t a → AreReasoned d h dump t a
     → AreReasonedVerdicts d h dump points a

@@ -1,11 +1,12 @@
 -- What holds of the replay once it has closed the steps of a dump up to a time.
-use Rattle.std.specs.Prelude.{◌≡◌, ◌⊎◌, ◌≤◌, ◌&&◌, ◌||◌, not, if◌then◌else◌, ℕ, Bool, true, List, Some, None}
+use Rattle.std.specs.Prelude.{◌≡◌, ◌⊎◌, ◌≤◌, ◌&&◌, ◌||◌, not, if◌then◌else◌, ℕ, Bool, false, true, List, Some, None}
 use Rattle.event_machine.specs.Cell.{Cell, Values, put_all}
 use Rattle.event_machine.specs.Habit.{Habit}
 use Rattle.design_model.specs.four_state.declared.bit.Bit.{Bit}
 use Rattle.design_model.specs.declared.point.Point.{Point}
 use Rattle.design_model.specs.Design.{Design, In, IsComb, Thing, body_at, process_at, signal_bits}
 use Rattle.design_model.specs.Mentions.{body_assigns, has_cell}
+use Rattle.design_model.specs.Machine.{machine}
 use Rattle.design_model.specs.Reads.{Agrees, ReadsWithin}
 use Rattle.design_model.specs.Run.{Run, settled}
 use Rattle.design_model.specs.Shows.{BoundDump, IsShowing, IsWindow}
@@ -14,6 +15,7 @@ use Rattle.design_model.specs.Points.{IsHitAt}
 use Rattle.design_model.specs.Clear.{HasChanged, IsForced, clear}
 use Rattle.design_model.specs.Open.{IsReached}
 use Rattle.design_model.specs.Doubt.{IsInDoubt}
+use Rattle.hidden_times.specs.Hidden.{IsSameTime}
 use Rattle.body_replay.specs.Contract.{Doubted, all_written, sure_in}
 use Rattle.body_replay.specs.Store.{AllowsState, Kept}
 use Rattle.replay_model.specs.Tables.{Tables}
@@ -31,17 +33,20 @@ IsMade d bound p k =
     → has_cell (all_written d (body_at d p) v) c ≡ true
     → k c ≡ Some (put_all v (all_written d (body_at d p) v) c)
 
--- what is sound in the replay, after its closed steps up to time t of the dump, of a design with these points
+-- what is sound in the replay, after its closed steps up to time t of the dump, of a design with these points; a hidden time t stands for the hidden
+-- times after it, up to the next listed one
 pub record IsSound (d : Design) (h : Habit) (dump : BoundDump) (points : List Point) (t : ℕ) (a : Replay) : Type 0 where
-  -- in each run that shows the dump up to t the settled values are allowed
-  pub allows : (r : Run) → IsShowing d h dump t r → AllowsState a.kept (settled d r t)
+  -- in each run that shows the dump up to t, or up to a time that is the same, the settled values are allowed
+  pub allows : (r : Run) (v : ℕ) → IsSameTime dump t v → IsShowing d h dump v r → AllowsState a.kept (settled d r v)
   -- a Comb that has acted has left its targets so
-  pub acted : (r : Run) → IsShowing d h dump t r → (p : ℕ) → IsComb (process_at d p) → a.acted p ≡ true → IsLeft d p (settled d r t)
+  pub acted : (r : Run) (v : ℕ) → IsSameTime dump t v → IsShowing d h dump v r → (p : ℕ) → IsComb (process_at d p) → a.acted p ≡ true → IsLeft d p (settled d r v)
   -- a point that was reported to be hit is hit in each such run
   pub hits : (x : Point) → IsHitMarked d x a.notes → (r : Run) → IsShowing d h dump t r → (u : ℕ) × IsWindow dump u × (u ≤ t) × IsHitAt d dump r x u
-  -- a point that is hit in such a run was reported to be hit, or to be in doubt at that time
-  pub marked : (x : Point) → In x points → (r : Run) → IsShowing d h dump t r → (u : ℕ) → IsWindow dump u → u ≤ t → IsHitAt d dump r x u
-      → IsHitMarked d x a.notes ⊎ ((s : ℕ) × IsDoubtMarked d x (record { time = u; thing = s }) a.notes)
+  -- a point that is hit in such a run was reported to be hit, or to be in doubt at that time or one that is the same
+  pub marked : (x : Point) → In x points → (r : Run) (v : ℕ) → IsSameTime dump t v → IsShowing d h dump v r → (u : ℕ) → IsWindow dump u → u ≤ v → IsHitAt d dump r x u
+      → IsHitMarked d x a.notes ⊎ ((y : Doubted) × IsSameTime dump y.time u × IsDoubtMarked d x y a.notes)
+  -- nothing is known of an input that the dump lacks
+  pub unknown : (c : Cell) → (machine d).is_input c ≡ true → dump.bound c.thing ≡ false → a.kept c ≡ None
 
 -- what is known in it: what is clear is sure
 pub record AreKnown (d : Design) (h : Habit) (dump : BoundDump) (tables : Tables) (t : ℕ) (a : Replay) : Type 0 where

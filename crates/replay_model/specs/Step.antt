@@ -75,6 +75,7 @@ pub record Closing : Type 0 where
   pub tables : Tables
   pub sets : Sets
   pub time : ℕ
+  pub listed : Bool  -- the dump lists the time
   pub new : Values Bit
   pub start : Replay
 
@@ -282,17 +283,35 @@ tell st x s sure possible =
 abbrev pub bit_may_be : Option Bit → Bit → Bool
 bit_may_be o b = not (surely_differ o (Some b))
 
+-- what is known of a bit before the step; a time that the dump does not list stands for more such times, so there it is as at the
+-- start of the step or as after it
+abbrev pub before_of : Closing → Kept
+before_of st c = if st.listed then st.start.kept c else join_bit (st.start.kept c) ((all_run st).kept c)
+
 -- whether a bit surely goes, or may go, from one value to another
 abbrev pub mark_toggle : Closing → Point → ℕ → Cell → Bit → Bit → List Marking
 mark_toggle st x s c a b =
-    tell st x s (surely_same (st.start.kept c) (Some a) && surely_same ((all_run st).kept c) (Some b)) (bit_may_be (st.start.kept c) a && bit_may_be ((all_run st).kept c) b)
+    tell st x s (surely_same (before_of st c) (Some a) && surely_same ((all_run st).kept c) (Some b)) (bit_may_be (before_of st c) a && bit_may_be ((all_run st).kept c) b)
 
 -- whether a signal surely goes, or may go, from some bits to others
 abbrev pub mark_arc : Closing → Point → ℕ → List Bit → List Bit → List Marking
 mark_arc st x s from to =
-    let before = known_bits st.design st.start.kept s in
+    let before = known_bits st.design (before_of st) s in
     let after = known_bits st.design (all_run st).kept s in
     tell st x s (are_surely before from && are_surely after to) (may_be before from && may_be after to)
+
+-- whether a signal surely has, or may have, these bits at a listed time
+abbrev pub mark_had : Closing → Point → ℕ → List Bit → List Marking
+mark_had st x s bits = tell st x s (are_surely (known_bits st.design (all_run st).kept s) bits) (may_be (known_bits st.design (all_run st).kept s) bits)
+
+-- whether a signal may come to have these bits at a time that the dump does not list
+abbrev pub mark_reached : Closing → Point → ℕ → List Bit → List Marking
+mark_reached st x s bits =
+    tell st x s false (may_be (known_bits st.design (all_run st).kept s) bits && not (are_surely (known_bits st.design (before_of st) s) bits))
+
+-- what is reported of a state of a signal
+abbrev pub mark_state : Closing → Point → ℕ → List Bit → List Marking
+mark_state st x s bits = if st.listed then mark_had st x s bits else (if st.sets.moves s then mark_reached st x s bits else [])
 
 -- the value from which a bit rises, or falls
 abbrev pub from_bit : Bool → Bit
@@ -306,8 +325,7 @@ to_bit rise = if rise then One else Zero
 abbrev pub point_notes : Closing → Point → List Marking
 point_notes st (toggle_point s i rise) =
     if st.sets.moves s then mark_toggle st (toggle_point s i rise) s (toggle_cell st.design s i) (from_bit rise) (to_bit rise) else []
-point_notes st (state_point i name s state x) =
-    tell st (state_point i name s state x) s (are_surely (known_bits st.design (all_run st).kept s) x.bits) (may_be (known_bits st.design (all_run st).kept s) x.bits)
+point_notes st (state_point i name s state x) = mark_state st (state_point i name s state x) s x.bits
 point_notes st (arc_point i name s from to x y) =
     if st.sets.moves s then mark_arc st (arc_point i name s from to x y) s x.bits y.bits else []
 point_notes st _ = []

@@ -7,7 +7,8 @@ use Rattle.event_machine.specs.Cell.{Cell}
 use Rattle.replay_model.specs.design_model.BodyLaws.{all_cells}
 use Rattle.replay_model.specs.design_model.Design.{Design, In, body_at, signal_at, signal_cells}
 use Rattle.replay_model.specs.design_model.Mentions.{any_set, any_set_in, any_set_of, blocking_target, body_blocks, may_write, some_may_write}
-use Rattle.replay_model.specs.design_model.Shows.{BoundDump, IsDumpOf}
+use Rattle.replay_model.specs.design_model.Shows.{BoundDump}
+use Rattle.replay_model.specs.hidden_times.Hidden.{IsAnyDumpOf}
 use Rattle.replay_model.specs.design_model.Machine.{machine}
 use Rattle.replay_model.specs.design_model.Tree.{Arms, Stmt, Stmts, Target, Targets, a_stmt, a_target, all_of, arm, bits_of, block, branch, empty, no_arms, no_stmts, no_targets, select, set, several, turns, word_of}
 use Rattle.replay_model.specs.Step.{is_dumped}
@@ -20,7 +21,7 @@ use Rattle.replay_steps.specs.Blank.{DrivesCells, HasDumpCells, IsCellOf}
 in_design : (d : Design) (c : Cell) → c.thing < length d.signals → nat_lt c.place (signal_at d c.thing).width ≡ true → IsCellOf d c
 in_design d c signal below = at_true (λ cs. In c cs) (nat_lt c.thing (length d.signals)) (signal_cells d c.thing) _ (lt-ltb _ _ signal) (signal_has d c (ltb-true _ _ below))
 
-pub dump_cells : (d : Design) (dump : BoundDump) → IsDumpOf d dump → HasDumpCells d dump.bound
+pub dump_cells : (d : Design) (dump : BoundDump) → IsAnyDumpOf d dump → HasDumpCells d dump.bound
 dump_cells d dump fits = λ c has. let parts = and_parts (dump.bound c.thing) _ has in in_design d c (fits.signals c.thing parts.0) parts.1
 
 module _ (d : Design) (c : Cell) (signal : c.thing < length d.signals) where

@@ -15,7 +15,8 @@ ghost use Rattle.event_machine.specs.Cell.{Cell, Values};
 ghost use Rattle.replay_model.specs.four_state.declared.bit.Bit.{Bit};
 ghost use Rattle.replay_model.specs.design_model.Design.{Design, In, body_at};
 ghost use Rattle.replay_model.specs.design_model.Mentions.{blocking_target, body_blocks};
-ghost use Rattle.replay_model.specs.design_model.Shows.{BoundDump, IsDumpOf, IsListed, IsWindow};
+ghost use Rattle.replay_model.specs.design_model.Shows.{BoundDump, IsListed, IsWindow};
+ghost use Rattle.replay_model.specs.hidden_times.Hidden.{IsAnyDumpOf, IsCalm};
 ghost use Rattle.replay_model.specs.design_model.declared.point.Point.{Point};
 ghost use Rattle.replay_model.specs.model_laws.Own.{HasOwnWakes};
 ghost use Rattle.replay_model.specs.body_replay.Runs.{Runs};
@@ -64,15 +65,16 @@ pub fn target_law()
         → MoveTargets (closing_at d dump run tables sets t a) }
 {}
 
-/// Over times that the dump does not list all stays that holds of the replay.
+/// Over times that the dump does not list all stays that holds of the replay, where each input is bound or the time before is one
+/// that the dump does not list.
 pub fn rest_law()
     ensures { (d : Design) (h : Habit) (dump : BoundDump) (run : Runs) (tables : Tables) (points : List Point) → IsReplayOf d h dump run tables points → HasOwnWakes d
-        → (t : ℕ) (n : ℕ) (a : Replay) → ((u : ℕ) → t < u → u ≤ t + n → IsWindow dump u × (IsListed dump u → ⊥)) → Stands d h dump tables points t a → Stands d h dump tables points (t + n) a }
+        → (t : ℕ) (n : ℕ) (a : Replay) → IsCalm d dump t → ((u : ℕ) → t < u → u ≤ t + n → IsWindow dump u × (IsListed dump u → ⊥)) → Stands d h dump tables points t a → Stands d h dump tables points (t + n) a }
 {}
 
 /// A dump of a design has cells of the design alone.
 pub fn dump_cells_law()
-    ensures { (d : Design) (dump : BoundDump) → IsDumpOf d dump → HasDumpCells d dump.bound }
+    ensures { (d : Design) (dump : BoundDump) → IsAnyDumpOf d dump → HasDumpCells d dump.bound }
 {}
 
 /// A process that drives signals alone drives cells of the design.

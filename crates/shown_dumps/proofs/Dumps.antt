@@ -1,21 +1,19 @@
 -- What a body says of a design to which its header is bound is a dump of the design.
-use Rattle.std.proofs.Common.{◌≡◌, ◌⊎◌, ℕ, suc, ◌+◌, ◌<◌, ◌≤◌, ◌&&◌, Bool, true, false, cond, is_some, nat_le, nat_lt, List, [], ◌∷◌, length, Option, None, Some, refl, sym, ap, ◌∙◌, inl, inr, arith}
-use Rattle.std.specs.Prelude.{slice_index_or}
+use Rattle.std.proofs.Common.{◌≡◌, ◌⊎◌, ℕ, suc, ◌+◌, ◌<◌, ◌≤◌, true, false, cond, is_some, nat_le, List, [], ◌∷◌, length, Option, None, Some, refl, sym, ap, ◌∙◌, inl, inr, arith}
 use Rattle.std.specs.List.{filter, flat_map}
 use Rattle.std.proofs.lemmas.Bool.{cases_lt, false≢true}
 use Rattle.std.proofs.lemmas.Bool.Decides.{nat_tests}
 use Rattle.std.proofs.lemmas.List.{get_or_past}
 use Rattle.std.proofs.lemmas.List.FromFn.{get_or-map-range_with_len, length-map-range_with_len}
-use Rattle.event_machine.specs.Cell.{Cell}
-use Rattle.design_model.specs.Design.{In, no_signal}
-use Rattle.design_model.specs.Shows.{IsDumpOf}
+use Rattle.design_model.specs.Design.{In}
 use Rattle.design_model.specs.View.{design_view}
 use Rattle.design_model.specs.declared.design.Design.{Design}
+use Rattle.hidden_times.specs.Hidden.{IsAnyDumpOf}
 use Rattle.vcd_reader.specs.Dump.{DumpStep, last_value, steps_of, times_of}
 use Rattle.vcd_reader.specs.Times.{Rises}
 use Rattle.vcd_reader.specs.declared.entry.Entry.{Entry}
 use Rattle.vcd_reader.specs.declared.vars.Var.{Var}
-use Rattle.signal_binding.specs.Binding.{IsBindable, code_of, codes_of, signal_of}
+use Rattle.signal_binding.specs.Binding.{code_of, codes_of}
 use Rattle.shown_dumps.specs.Shown.{bit_at, code_at, dump_of, value_of_code}
 use Rattle.shown_dumps.proofs.Times.{steps_rise}
 
@@ -58,18 +56,9 @@ coded_signal design vars instance s bound = go (cases_lt s (length design.signal
 pub code_is : (design : Design) (vars : List Var) (instance : List ℕ) (s : ℕ) → s < length design.signals → code_at (codes_of design vars instance) s ≡ code_of design vars instance s
 code_is design vars instance s within = get_or-map-range_with_len (code_of design vars instance) 0 (length design.signals) s s None within (let same : 0 + s ≡ s = omega arith in same)
 
-first_of : (a b : Bool) → (a && b) ≡ true → a ≡ true
-first_of true b e = refl
-first_of false b e = e
-
-pub is_dump : (design : Design) (vars : List Var) (instance : List ℕ) (entries : List Entry) → IsBindable design vars instance → Rises None entries → IsDumpOf (design_view design) (dump_of (codes_of design vars instance) (steps_of entries))
-is_dump design vars instance entries bindable rises = record {
+pub is_dump : (design : Design) (vars : List Var) (instance : List ℕ) (entries : List Entry) → Rises None entries → IsAnyDumpOf (design_view design) (dump_of (codes_of design vars instance) (steps_of entries))
+is_dump design vars instance entries rises = record {
   rising = steps_rise entries rises;
   signals = λ s bound. coded_signal design vars instance s bound;
-  inputs = λ c is. input c (cases_lt c.thing (length design.signals)) (first_of (slice_index_or design.signals c.thing no_signal).input (nat_lt c.place (slice_index_or design.signals c.thing no_signal).width) is);
   stays = λ t none. λ i c. bit_at (same_value (steps_of entries) t none (code_at (codes_of design vars instance) c.thing) i) c.place;
 }
-  where
-    input : (c : Cell) → (c.thing < length design.signals) ⊎ (length design.signals ≤ c.thing) → (signal_of design c.thing).input ≡ true → is_some (code_at (codes_of design vars instance) c.thing) ≡ true
-    input c (inl within) is = ap is_some (code_is design vars instance c.thing within) ∙ bindable.inputs c.thing within is
-    input c (inr past) is = absurd (false≢true (sym (ap (λ x. x.input) (get_or_past design.signals c.thing no_signal past)) ∙ is))

@@ -1,5 +1,5 @@
 -- What holds of each dump that goes on from what was read.
-use Rattle.std.proofs.Common.{◌≡◌, ℕ, ◌<◌, ◌≤◌, List, [], ◌∷◌, ◌++◌, length, Option, None, Some, refl, sym, ap, subst, ◌∙◌, arith, append_assoc, append-nil, false, true}
+use Rattle.std.proofs.Common.{◌≡◌, ℕ, ◌<◌, ◌≤◌, ◌-◌, List, [], ◌∷◌, ◌++◌, length, Option, None, Some, refl, sym, ap, subst, ◌∙◌, arith, append_assoc, append-nil, false, true}
 use Rattle.std.specs.Prelude.{IsSome}
 use Rattle.four_state.specs.Vector.{Vector}
 use Rattle.design_model.specs.Design.{signal_bits}
@@ -27,47 +27,28 @@ pub change_more : (P : BoundDump → ℕ → Type 0) (codes : List (Option ℕ))
 change_more P codes entries code value holds before last ends more rises =
     let parts : (entries ++ Value code value ∷ []) ++ more ≡ entries ++ Value code value ∷ more = append_assoc entries (Value code value ∷ []) more in
     let times : times_in (entries ++ Value code value ∷ []) ≡ times_in entries = times_in_append entries (Value code value ∷ []) ∙ append-nil (times_in entries) in
-    subst (λ es. P (dump_of codes (steps_of es)) before) (sym parts)
+    subst (λ es. P (dump_of codes (steps_of es)) (last - 1)) (sym parts)
     (holds before last (record { earlier = ends.earlier; are = sym times ∙ ends.are }) (Value code value ∷ more) (subst (Rises None) parts rises))
 
--- the last of the times is the last time
-last_of_times : (start : Option ℕ) (entries : List Entry) (front : List ℕ) (t : ℕ) → times_in entries ≡ front ++ t ∷ [] → last_time start entries ≡ Some t
-last_of_times start [] [] t e = absurd cc
-last_of_times start [] (x ∷ front) t e = absurd cc
-last_of_times start (Value code value ∷ entries) front t e = last_of_times start entries front t e
-last_of_times start (Time time ∷ entries) [] t e =
-    let same : time ≡ t = cc in
-    let none : times_in entries ≡ [] = cc in
-    no_more (Some time) entries none ∙ ap Some same
-  where
-    no_more : (o : Option ℕ) (es : List Entry) → times_in es ≡ [] → last_time o es ≡ o
-    no_more o [] f = refl
-    no_more o (Time other ∷ es) f = absurd cc
-    no_more o (Value code value ∷ es) f = no_more o es f
-last_of_times start (Time time ∷ entries) (x ∷ front) t e = let tails : times_in entries ≡ front ++ t ∷ [] = cc in last_of_times (Some time) entries front t tails
-
 -- lists with one item more at the end
-snoc_init : (xs ys : List ℕ) (x y : ℕ) → xs ++ x ∷ [] ≡ ys ++ y ∷ [] → xs ≡ ys
-snoc_init [] [] x y e = refl
-snoc_init [] (b ∷ []) x y e = absurd cc
-snoc_init [] (b ∷ c ∷ ys) x y e = absurd cc
-snoc_init (a ∷ []) [] x y e = absurd cc
-snoc_init (a ∷ c ∷ xs) [] x y e = absurd cc
-snoc_init (a ∷ xs) (b ∷ ys) x y e =
-    let heads : a ≡ b = cc in
+snoc_last : (xs ys : List ℕ) (x y : ℕ) → xs ++ x ∷ [] ≡ ys ++ y ∷ [] → x ≡ y
+snoc_last [] [] x y e = cc
+snoc_last [] (b ∷ []) x y e = absurd cc
+snoc_last [] (b ∷ c ∷ ys) x y e = absurd cc
+snoc_last (a ∷ []) [] x y e = absurd cc
+snoc_last (a ∷ c ∷ xs) [] x y e = absurd cc
+snoc_last (a ∷ xs) (b ∷ ys) x y e =
     let tails : xs ++ x ∷ [] ≡ ys ++ y ∷ [] = cc in
-    ap (λ h. h ∷ xs) heads ∙ ap (λ rest. b ∷ rest) (snoc_init xs ys x y tails)
+    snoc_last xs ys x y tails
 
-pub time_more : (P : BoundDump → ℕ → Type 0) (codes : List (Option ℕ)) (entries : List Entry) (last next : ℕ) → last_time None entries ≡ Some last
-    → ((more : List Entry) → Rises None (entries ++ Time next ∷ more) → P (dump_with codes entries next more) last)
+pub time_more : (P : BoundDump → ℕ → Type 0) (codes : List (Option ℕ)) (entries : List Entry) (next : ℕ)
+    → ((more : List Entry) → Rises None (entries ++ Time next ∷ more) → P (dump_with codes entries next more) (next - 1))
     → HoldsOn P codes (entries ++ Time next ∷ [])
-time_more P codes entries last next is_last holds before after ends more rises =
+time_more P codes entries next holds before after ends more rises =
     let parts : (entries ++ Time next ∷ []) ++ more ≡ entries ++ Time next ∷ more = append_assoc entries (Time next ∷ []) more in
     let times : times_in entries ++ next ∷ [] ≡ (ends.earlier ++ before ∷ []) ++ after ∷ [] = sym (times_in_append entries (Time next ∷ [])) ∙ ends.are ∙ sym (append_assoc ends.earlier (before ∷ []) (after ∷ [])) in
-    let front : times_in entries ≡ ends.earlier ++ before ∷ [] = snoc_init (times_in entries) (ends.earlier ++ before ∷ []) next after times in
-    let some : Some last ≡ Some before = sym is_last ∙ last_of_times None entries ends.earlier before front in
-    let same : last ≡ before = cc in
-    subst (λ es. P (dump_of codes (steps_of es)) before) (sym parts) (subst (λ t. P (dump_with codes entries next more) t) same (holds more (subst (Rises None) parts rises)))
+    let same : next ≡ after = snoc_last (times_in entries) (ends.earlier ++ before ∷ []) next after times in
+    subst (λ es. P (dump_of codes (steps_of es)) (after - 1)) (sym parts) (subst (λ t. P (dump_with codes entries next more) (t - 1)) same (holds more (subst (Rises None) parts rises)))
 
 -- ---- values
 

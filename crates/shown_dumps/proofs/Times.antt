@@ -101,6 +101,18 @@ in_window (x ∷ front) p t u back up =
           omega (arith, down.0, last, same),
     )
 
+-- a time between neighbours is of the window
+between_window : (front : List ℕ) (p t : ℕ) (back : List ℕ) → AreRising (front ++ p ∷ t ∷ back) → (u : ℕ) → p < u → u < t → IsWindowOf (front ++ p ∷ t ∷ back) u
+between_window [] p t back up u after before = (after, omega (arith, before, last_later t back up.1))
+between_window (x ∷ front) p t back up u after before =
+    let parts : front ++ p ∷ t ∷ back ≡ (front ++ p ∷ []) ++ t ∷ back = sym (append_assoc front (p ∷ []) (t ∷ back)) in
+    let first = later x (front ++ p ∷ t ∷ back) p up (in_middle front p (t ∷ back)) in
+    let last = last_of_more x (front ++ p ∷ []) t back (subst (λ ts. AreRising (x ∷ ts)) parts up) in
+    let same : last_of x (front ++ p ∷ t ∷ back) ≡ last_of x ((front ++ p ∷ []) ++ t ∷ back) = ap (last_of x) parts in (
+      omega (arith, first, after),
+      omega (arith, before, last, same),
+    )
+
 -- ---- the times of a dump
 
 module _ (codes : List (Option ℕ)) (entries more : List Entry) (next : ℕ) (rises : Rises None (entries ++ Time next ∷ more)) where
@@ -129,3 +141,14 @@ module _ (codes : List (Option ℕ)) (entries more : List Entry) (next : ℕ) (r
         none = λ t after less listed. none_between ends.earlier before last (next ∷ times_in more) rising t after less (subst (In t) times listed);
         in_window = subst (λ ts. IsWindowOf ts last) (sym times) (in_window ends.earlier before last next (times_in more) rising);
       }
+
+  -- between the last time and the next one none is listed, and each is of the window
+  pub rest_times : (front : List ℕ) (last : ℕ) → times_in entries ≡ front ++ last ∷ []
+      → ((u : ℕ) → last < u → u < next → IsWindow (dump_with codes entries next more) u) × ((u : ℕ) → last < u → u < next → IsListed (dump_with codes entries next more) u → ⊥)
+  rest_times front last e =
+      let times : times_of (steps_of (entries ++ Time next ∷ more)) ≡ front ++ last ∷ next ∷ times_in more =
+      all_times ∙ ap (λ ts. ts ++ next ∷ times_in more) e ∙ append_assoc front (last ∷ []) (next ∷ times_in more) in
+      let rising : AreRising (front ++ last ∷ next ∷ times_in more) = subst AreRising times (steps_rise (entries ++ Time next ∷ more) rises) in (
+        λ u after less. subst (λ ts. IsWindowOf ts u) (sym times) (between_window front last next (times_in more) rising u after less),
+        λ u after less listed. none_between front last next (times_in more) rising u after less (subst (In u) times listed),
+      )

@@ -5,7 +5,7 @@ use Rattle.design_model.specs.declared.design.Design.{Design}
 use Rattle.vcd_reader.specs.Dump.{Dump, DumpStep, last_value, steps_of}
 use Rattle.vcd_reader.specs.declared.entry.Entry.{Entry}
 use Rattle.vcd_reader.specs.declared.vars.Var.{Var}
-use Rattle.signal_binding.specs.Binding.{IsBindable, codes_of}
+use Rattle.signal_binding.specs.Binding.{HasInstance, codes_of}
 use Rattle.shown_dumps.specs.Shown.{code_at}
 
 -- the value of a code before the second time, if it has one
@@ -17,14 +17,14 @@ first_value (first ∷ steps) code = last_value code first.changes
 abbrev pub HasFirstValue : List (Option ℕ) → List DumpStep → ℕ → Type 0
 HasFirstValue codes steps s = IfSome (code_at codes s) (λ code. IsSome (first_value steps code))
 
--- the instance is there, each input is bound, and each bound signal has a value before the second time, if there is one
+-- the instance is there, and each bound signal has a value before the second time, if there is one
 pub record IsBound (design : Design) (dump : Dump) (instance : List ℕ) : Type 0 where
-  pub bindable : IsBindable design dump.vars instance
+  pub there : HasInstance dump.vars instance
   pub first_values : 2 ≤ length dump.steps → (s : ℕ) → HasFirstValue (codes_of design dump.vars instance) dump.steps s
 
--- the design is bound, there is a second time, and the signal with this number is the first bound one that has no value before it
+-- the instance is there, there is a second time, and the signal with this number is the first bound one that has no value before it
 pub record HasNoBaseline (design : Design) (vars : List Var) (instance : List ℕ) (entries : List Entry) (s : ℕ) : Type 0 where
-  pub bindable : IsBindable design vars instance
+  pub there : HasInstance vars instance
   pub second : 2 ≤ length (steps_of entries)
   pub listed : s < length design.signals
   pub earlier : (k : ℕ) → k < s → HasFirstValue (codes_of design vars instance) (steps_of entries) k

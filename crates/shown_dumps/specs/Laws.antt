@@ -3,16 +3,17 @@ use Rattle.std.specs.Prelude.{◌≡◌, ◌<◌, ◌≤◌, ◌++◌, ℕ, fals
 use Rattle.four_state.specs.Vector.{Vector}
 use Rattle.design_model.specs.Design.{Design as Tree, signal_bits}
 use Rattle.design_model.specs.Run.{Run}
-use Rattle.design_model.specs.Shows.{BoundDump, IsDumpOf, IsFirst, IsListed, IsShown, IsWindow, ShowsUpTo}
+use Rattle.design_model.specs.Shows.{BoundDump, IsFirst, IsListed, IsShown, IsWindow, ShowsUpTo}
 use Rattle.design_model.specs.View.{design_view}
 use Rattle.design_model.specs.declared.design.Design.{Design}
+use Rattle.hidden_times.specs.Hidden.{IsAnyDumpOf}
 use Rattle.vcd_reader.specs.Dump.{steps_of, value_at}
 use Rattle.vcd_reader.specs.Times.{Rises, last_time}
 use Rattle.vcd_reader.specs.declared.entry.Entry.{Entry}
 use Rattle.vcd_reader.specs.declared.entry.Entry.TheVariants.{Time}
 use Rattle.vcd_reader.specs.declared.vars.Var.{Var}
 use Rattle.entry_laws.specs.Entries.{AreEntries}
-use Rattle.signal_binding.specs.Binding.{IsBindable, codes_of}
+use Rattle.signal_binding.specs.Binding.{codes_of}
 use Rattle.shown_dumps.specs.Bound.{first_value}
 use Rattle.shown_dumps.specs.Said.{EndsIn, times_in, value_after}
 use Rattle.shown_dumps.specs.Shown.{code_at, dump_of}
@@ -32,11 +33,11 @@ abbrev pub FirstValueLaw : Type 0
 FirstValueLaw =
     (entries more : List Entry) (first next code : ℕ) → times_in entries ≡ first ∷ [] → first_value (steps_of (entries ++ Time next ∷ more)) code ≡ value_after entries code
 
--- where the times rise and the inputs of a design are bound, this is a dump of the design
+-- where the times rise, this is a dump of the design, which may lack inputs
 abbrev pub DumpLaw : Type 0
 DumpLaw =
-    (design : Design) (vars : List Var) (instance : List ℕ) (entries : List Entry) → IsBindable design vars instance → Rises None entries
-    → IsDumpOf (design_view design) (dump_of (codes_of design vars instance) (steps_of entries))
+    (design : Design) (vars : List Var) (instance : List ℕ) (entries : List Entry) → Rises None entries
+    → IsAnyDumpOf (design_view design) (dump_of (codes_of design vars instance) (steps_of entries))
 
 -- where one time is said before the next, it is the first of the dump, and shown
 abbrev pub FirstTimeLaw : Type 0

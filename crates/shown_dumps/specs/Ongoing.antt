@@ -1,5 +1,5 @@
 -- What holds of each dump that goes on from what was read.
-use Rattle.std.specs.Prelude.{◌≡◌, ◌<◌, ◌≤◌, ◌++◌, ℕ, List, ◌∷◌, length, Option, Some, None, IsSome}
+use Rattle.std.specs.Prelude.{◌≡◌, ◌<◌, ◌≤◌, ◌-◌, ◌++◌, ℕ, List, ◌∷◌, length, Option, Some, None, IsSome}
 use Rattle.std.specs.Option.{option_map}
 use Rattle.four_state.specs.Vector.{Vector}
 use Rattle.four_state.specs.declared.bit.Bit.{Bit}
@@ -19,9 +19,9 @@ use Rattle.shown_dumps.specs.Laws.{dump_with}
 use Rattle.shown_dumps.specs.Said.{EndsIn, times_in, value_after}
 use Rattle.shown_dumps.specs.Shown.{code_at, dump_of}
 
--- this holds of each dump whose body begins with these entries, and of the last time but one that they say
+-- this holds of each dump whose body begins with these entries, and of the moment before the last time that they say, if they say two
 abbrev pub HoldsOn : (BoundDump → ℕ → Type 0) → List (Option ℕ) → List Entry → Type 0
-HoldsOn P codes entries = (before last : ℕ) → EndsIn (times_in entries) before last → (more : List Entry) → Rises None (entries ++ more) → P (dump_of codes (steps_of (entries ++ more))) before
+HoldsOn P codes entries = (before last : ℕ) → EndsIn (times_in entries) before last → (more : List Entry) → Rises None (entries ++ more) → P (dump_of codes (steps_of (entries ++ more))) (last - 1)
 
 -- the bits of a value, if there is one
 abbrev pub bits_of : Option Vector → Option (List Bit)

@@ -1,7 +1,7 @@
 //! What the dump of a text says of a design, and theorems of it; there is no code.
 //!
-//! The dump of a text and a binding of signals to codes give what `design_model` calls a dump of a design (`specs/Shown.antt`). Where
-//! the inputs are bound it is one ([`dump_law`]). A body that is read up to a time fixes what the dump says before this time,
+//! The dump of a text and a binding of signals to codes give a dump of a design, which may lack inputs (`specs/Shown.antt`), where
+//! the times rise ([`dump_law`]). A body that is read up to a time fixes what the dump says before this time,
 //! whatever comes later: its times ([`first_time_law`], [`next_time_law`]), and the values of codes and signals
 //! ([`value_law`], [`first_value_law`], [`bits_law`]). A run that shows the whole dump shows what was read of it ([`front_law`]).
 //! The values that were given last are those of each dump that goes on ([`given_law`]), and the first values stay ([`first_stays_law`]).
@@ -32,7 +32,7 @@ pub fn first_value_law()
     ensures { FirstValueLaw }
 {}
 
-/// A dump with rising times in which the inputs of a design are bound is a dump of the design.
+/// A dump with rising times is a dump of the design, which may lack inputs.
 pub fn dump_law()
     ensures { DumpLaw }
 {}

@@ -1,5 +1,5 @@
 -- The variable of a dump to which a signal is bound.
-use Rattle.std.specs.Prelude.{◌≡◌, ◌<◌, ◌==◌, ℕ, Bool, true, false, Option, None, IsSome, List, [], ◌∷◌, filter, length, map, slice_index_or}
+use Rattle.std.specs.Prelude.{◌≡◌, ◌==◌, ℕ, Bool, true, false, Option, None, List, [], ◌∷◌, filter, length, map, slice_index_or}
 use Rattle.std.specs.List.{list_any, range_with_len}
 use Rattle.std.specs.Option.{option_or}
 use Rattle.design_model.specs.Design.{no_signal}
@@ -48,25 +48,7 @@ codes_of design vars instance = map (code_of design vars instance) (range_with_l
 abbrev pub HasInstance : List Var → List ℕ → Type 0
 HasInstance vars instance = list_any (stands_in instance) vars ≡ true
 
--- the signal is bound if it is an input
-abbrev pub IsBoundInput : Design → List Var → List ℕ → ℕ → Type 0
-IsBoundInput design vars instance s = (signal_of design s).input ≡ true → IsSome (code_of design vars instance s)
-
--- the instance is in the dump, and each input is bound
-pub record IsBindable (design : Design) (vars : List Var) (instance : List ℕ) : Type 0 where
-  pub instance_is : HasInstance vars instance
-  pub inputs : (s : ℕ) → s < length design.signals → IsBoundInput design vars instance s
-
--- the instance is in the dump, and the signal with this number is the first input that is not bound
-pub record IsNotDumped (design : Design) (vars : List Var) (instance : List ℕ) (s : ℕ) : Type 0 where
-  pub instance_is : HasInstance vars instance
-  pub listed : s < length design.signals
-  pub input : (signal_of design s).input ≡ true
-  pub none : code_of design vars instance s ≡ None
-  pub earlier : (k : ℕ) → k < s → IsBoundInput design vars instance k
-
 -- why the design is not bound
 abbrev pub IsBindFault : Design → List Var → List ℕ → BindFault → Type 0
 IsBindFault design vars instance bind_fault.NoMemory = Unit {0}
 IsBindFault design vars instance bind_fault.NoInstance = list_any (stands_in instance) vars ≡ false
-IsBindFault design vars instance (bind_fault.InputNotDumped s) = IsNotDumped design vars instance s

@@ -1,12 +1,11 @@
 -- What a table of the variables of a dump says.
-use Rattle.std.specs.Prelude.{◌≡◌, ◌<◌, ◌&&◌, ◌||◌, ◌++◌, ◌==◌, ℕ, Bool, true, false, not, if◌then◌else◌, List, [], ◌∷◌, drop, length, slice_index_or, Option, None, is_some}
+use Rattle.std.specs.Prelude.{◌≡◌, ◌<◌, ◌&&◌, ◌++◌, ◌==◌, ℕ, if◌then◌else◌, List, [], ◌∷◌, drop, length, slice_index_or, Option, None}
 use Rattle.std.specs.Option.{option_or}
 use Rattle.std.specs.Str.{bytes_eq}
 use Rattle.indexmap.specs.IndexMap.{get_by}
-use Rattle.design_model.specs.Design.{no_instance, no_signal}
+use Rattle.design_model.specs.Design.{no_instance}
 use Rattle.design_model.specs.declared.design.Alias.{Alias}
 use Rattle.design_model.specs.declared.design.Design.{Design}
-use Rattle.design_model.specs.declared.design.Signal.{Signal}
 use Rattle.vcd_reader.specs.declared.vars.Var.{Var}
 use Rattle.signal_binding.specs.Names.{code_under}
 use Rattle.signal_binding.specs.Binding.{names_signal, signal_of}
@@ -46,13 +45,3 @@ code_among table design aliases s = option_or (own_code table design s) (first_a
 pub record AreCodesAmong (table : Table) (design : Design) (aliases : List Alias) (codes : List (Option ℕ)) : Type 0 where
   pub as_many : length codes ≡ length design.signals
   pub each : (s : ℕ) → s < length design.signals → slice_index_or codes s None ≡ code_among table design aliases s
-
--- the signal with this number is no input, or has a code
-abbrev pub is_bound_if_input : List Signal → List (Option ℕ) → ℕ → Bool
-is_bound_if_input signals codes s = not (slice_index_or signals s no_signal).input || is_some (slice_index_or codes s None)
-
--- the signal with this number is the first input without a code
-pub record IsFirstUnbound (signals : List Signal) (codes : List (Option ℕ)) (s : ℕ) : Type 0 where
-  pub listed : s < length signals
-  pub unbound : is_bound_if_input signals codes s ≡ false
-  pub earlier : (k : ℕ) → k < s → is_bound_if_input signals codes k ≡ true

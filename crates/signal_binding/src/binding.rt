@@ -1,13 +1,13 @@
-ghost use Rattle.std.specs.Prelude.{◌≡◌, ◌++◌, ◌∷◌, ◌<◌, [], ℕ, List, None, true, IfErr, IfNone, IfOk, IfSome, IsSome, OnOk, length, slice_index_or};
+ghost use Rattle.std.specs.Prelude.{◌≡◌, ◌++◌, ◌∷◌, [], List, None, IfErr, IfOk, OnOk, length, slice_index_or};
 ghost use Rattle.design_model.specs.declared.design.Alias.{Alias as SpecAlias};
-ghost use Rattle.signal_binding.specs.Binding.{IsBindFault, IsBindable, codes_of};
-ghost use Rattle.signal_binding.specs.Table.{AreCodesAmong, IsFirstUnbound, code_in_instance, is_bound_if_input};
+ghost use Rattle.signal_binding.specs.Binding.{HasInstance, IsBindFault, codes_of};
+ghost use Rattle.signal_binding.specs.Table.{AreCodesAmong, code_in_instance};
 
 use crate::BindFault;
 use crate::scope::{below_top, has_instance};
 use crate::table::{Key, Table};
 use cov_host::{Name, NoMemory};
-use design_model::{Alias, Design, Signal};
+use design_model::{Alias, Design};
 use std::alloc::Global;
 use std::marker::Model;
 use vcd_reader::{Var, Vars};
@@ -38,7 +38,7 @@ impl Binding {
     }
 }
 
-/// Binds the signals of a design, of which the instance is the top, to the variables of a dump.
+/// Binds the signals of a design, of which the instance is the top, to the variables of a dump. An input that has no variable has no code.
 ///
 /// It takes a time near the sum of the lengths of the names.
 pub fn bind(
@@ -48,17 +48,14 @@ pub fn bind(
     instance: &str,
 ) -> Result<Binding, BindFault>
     ensures codes { IfOk result (λ binding. binding ≡ codes_of design.now vars.now instance.now) }
-    ensures bindable { OnOk result (IsBindable design.now vars.now instance.now) }
+    ensures instance { OnOk result (HasInstance vars.now instance.now) }
     ensures fault { IfErr result (IsBindFault design.now vars.now instance.now) }
 {
     if !has_instance(vars.as_slice(), instance) {
         return Err(BindFault::NoInstance);
     }
     let codes = codes_of(alloc, design, vars.as_slice(), instance)?;
-    match first_unbound(design.signals.as_slice(), codes.as_slice()) {
-        Some(signal) => Err(BindFault::InputNotDumped { signal }),
-        None => Ok(Binding { codes }),
-    }
+    Ok(Binding { codes })
 }
 
 /// The codes of the signals in order.
@@ -130,18 +127,4 @@ fn code_under<'a>(
         name: name.as_slice(),
         size: u32::from(width),
     })
-}
-
-/// The number of the first input that has no code.
-fn first_unbound(signals: &[Signal], codes: &[Option<u32>]) -> Option<usize>
-    requires { length codes.now ≡ length signals.now }
-    ensures first { IfSome result (IsFirstUnbound signals.now codes.now) }
-    ensures none { IfNone result ((s : ℕ) → s < length signals.now → is_bound_if_input signals.now codes.now s ≡ true) }
-{
-    for (place, signal) in signals.iter().enumerate() {
-        if signal.input && codes[place].is_none() {
-            return Some(place);
-        }
-    }
-    None
 }

@@ -13,9 +13,6 @@ pub enum BindFault {
     /// No variable is in the scope of the instance or below it.
     #[error("no such instance")]
     NoInstance,
-    /// The input with this number, the first such one, has no variable of its width under any of its names.
-    #[error("input {signal} is not dumped")]
-    InputNotDumped { signal: usize },
 }
 
 impl From<NoMemory> for BindFault {

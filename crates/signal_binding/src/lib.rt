@@ -3,7 +3,7 @@
 //!
 //! [`bind`] gives a [`Binding`], the code of each signal by its number, and is proved to give exactly that of
 //! `specs/Binding.antt`: the variable of the signal's width under the first of its names that has one. It refuses
-//! exactly where the instance is not in the dump or an input has no variable. [`bound_by_header`] states that a
+//! exactly where the instance is not in the dump. [`bound_by_header`] states that a
 //! binding depends on the header alone.
 #![tactic(auto)]
 

@@ -3,7 +3,7 @@ use Rattle.std.proofs.Common.{◌≡◌, ◌∙◌, ◌≤◌, ◌<◌, ◌+◌,
 use Rattle.std.specs.List.{Contains}
 use Rattle.std.proofs.lemmas.Bool.{eqb-true, eq-eqb, lt-ltb, ltb-true}
 use Rattle.step_parts.specs.body_calls.Own.{is_in}
-use Rattle.step_parts.specs.replay_model.Step.{Closing, all_run, known_bits}
+use Rattle.step_parts.specs.replay_model.Step.{Closing, all_run, before_of, known_bits}
 use Rattle.step_parts.proofs.step_changes.early_sets.Membership.{is_in_from, is_in_is}
 use Rattle.body_replay.specs.Store.{Kept}
 use Rattle.cover_points.specs.Listed.{IsPointList}
@@ -17,7 +17,7 @@ use Rattle.cover_points.specs.design_machines.declared.machine.Machine.{Machine}
 use Rattle.design_model.specs.Design.{Design}
 use Rattle.cover_points.specs.design_machines.state_machines.Machines.{StateMachines}
 use Rattle.machine_index.specs.Index.{HasSignal}
-use Rattle.machine_marks.specs.Marked.{Chances, MarksEach, MarksMachine, MarksStates, chances_of, is_of_machine, is_state_of, marked_if}
+use Rattle.machine_marks.specs.Marked.{Chances, MarksEach, MarksMachine, MarksStates, chances_in, chances_of, is_of_machine, is_state_of, marked_if}
 use Rattle.machine_marks.proofs.Tests.{and_or, lt_more}
 use Rattle.machine_laws.specs.Followed.{MarksMachines, is_state, step_chances}
 use Rattle.point_marks.specs.declared.verdict.Verdict.{Verdict}
@@ -77,7 +77,7 @@ module _ (st : Closing) (ms : StateMachines) (ps : Points) (list : IsPointList s
         ap (λ b. marked_if b x.signal st.time (step_chances st x p) v) (is_of st.design ms ps list k n p at ∙ e) ∙ sym (ap (λ b. marked_if b s st.time (step_chances st (own_machine ps p) p) v) e)
 
     pub one_number : (ks : List ℕ) (before middle after : List Verdict) → MarksNumbers st ps ks s before middle
-        → MarksMachine ps k x st.time (known_bits st.design st.start.kept x.signal) (known_bits st.design (all_run st).kept x.signal) middle after → MarksNumbers st ps (ks ++ k ∷ []) s before after
+        → MarksMachine st.listed ps k x st.time (known_bits st.design (before_of st) x.signal) (known_bits st.design (all_run st).kept x.signal) middle after → MarksNumbers st ps (ks ++ k ∷ []) s before after
     one_number ks before middle after a b = joined ps _ _ _ before middle after a b (λ n p at v. (
         let c = step_chances st (own_machine ps p) p in
         own n p at (marked_if (is_in ks (machine_of p)) s st.time c v) (k == machine_of p) refl ∙ either (is_in ks (machine_of p)) (k == machine_of p) s st.time c v
@@ -182,13 +182,14 @@ module _ (st : Closing) (ps : Points) where
   pub start_told : (vs : List Verdict) → MarksSome st ps true [] vs vs
   start_told vs = none_marked ps _ vs (λ n p at v. (let x = own_machine ps p in ap (λ b. marked_if b x.signal st.time (step_chances st x p) v) (and_false (is_state p))))
 
-  pub start_untold : (before after : List Verdict) → MarksAll st.design ps (all_run st).kept st.time before after → MarksSome st ps false [] before after
-  start_untold before after h = restated ps _ _ before after h (λ n p at v. same p v)
+  pub start_untold : st.listed ≡ true → (before after : List Verdict) → MarksAll st.design ps (all_run st).kept st.time before after → MarksSome st ps false [] before after
+  start_untold listed before after h = restated ps _ _ before after h (λ n p at v. same p v)
     where
       same : (p : MachinePoint) (v : Verdict)
           → (let x = own_machine ps p in marked_if (is_state p) x.signal st.time (chances_of x.values (known_bits st.design (all_run st).kept x.signal) (known_bits st.design (all_run st).kept x.signal) p) v)
           ≡ (let x = own_machine ps p in marked_if (is_in [] x.signal || (is_state p && not false)) x.signal st.time (step_chances st x p) v)
-      same (State k i) v = refl
+      same (State k i) v = (let x = own_machine ps (State k i) in
+          ap (λ b. marked_if true x.signal st.time (chances_in b x.values (known_bits st.design (before_of st) x.signal) (known_bits st.design (all_run st).kept x.signal) (State k i)) v) (sym listed))
       same (Arc k i j) v = refl
 
 -- an item of a list is in it

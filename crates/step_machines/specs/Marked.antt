@@ -1,5 +1,5 @@
 -- The marks of the machines of a step once its processes have run.
-use Rattle.std.specs.Prelude.{◌≡◌, ◌==◌, ◌≤◌, ◌^◌, ℕ, Bool, true, List, length}
+use Rattle.std.specs.Prelude.{◌≡◌, ◌==◌, ◌≤◌, ◌^◌, ◌||◌, not, ℕ, Bool, true, List, length}
 use Rattle.bit_changes.specs.declared.toggles.Toggles.{Toggles}
 use Rattle.body_replay.specs.Store.{Kept}
 use Rattle.step_parts.specs.body_calls.Own.{is_in}
@@ -39,16 +39,18 @@ pub record FitsMachines (d : Design) (ps : Points) (x : MachineIndex) : Type 0 w
   pub index : IsIndexOf ps.machines.items (length d.signals) x
 
 -- the processes of the step have run, and these may move and no others
-pub record IsOver (st : Closing) (moving : List ℕ) (end : ℕ) (x : Store) (v : StepVectors) : Type 0 where
+pub record IsOver (st : Closing) (moving : List ℕ) (end : ℕ) (listed : Bool) (x : Store) (v : StepVectors) : Type 0 where
   pub values : HasValues st (all_run st) x v
   pub moves : (s : ℕ) → st.sets.moves s ≡ is_in moving s
   pub time : st.time ≡ end
+  pub kind : st.listed ≡ listed
 
 -- the processes of the step have run, and this signal or memory may move
-pub record IsMoving (st : Closing) (s : ℕ) (end : ℕ) (x : Store) (v : StepVectors) : Type 0 where
+pub record IsMoving (st : Closing) (s : ℕ) (end : ℕ) (listed : Bool) (x : Store) (v : StepVectors) : Type 0 where
   pub values : HasValues st (all_run st) x v
   pub moves : st.sets.moves s ≡ true
   pub time : st.time ≡ end
+  pub kind : st.listed ≡ listed
 
 -- the machine of a state or an arc
 abbrev pub own_machine : Points → MachinePoint → Machine
@@ -63,10 +65,10 @@ MarksAll d ps k time before after =
 abbrev pub MarksThing : Closing → Points → ℕ → List Verdict → List Verdict → Type 0
 MarksThing st ps s before after = MarksEach ps (λ p v. (let x = own_machine ps p in marked_if (s == x.signal) s st.time (step_chances st x p) v)) before after
 
--- once the toggles and the machines are marked, the parts of the code are those of the replay after the step, and each state was told
+-- once the toggles and the machines are marked, the parts of the code are those of the replay after the step, and at a listed time each state was told
 abbrev pub ClosedLaw : Type 0
 ClosedLaw =
     (st : Closing) (machines : StateMachines) (ps : Points) (told : Bool) (x : Store) (v : StepVectors) (sets : WakeState) (acted : List Bool) (before middle after : Marks) (seen : List Toggles)
     → IsLawfulDesign st.design → IsPointList st.design machines ps → AreOnce ps → AtStep st ps (all_run st) x v sets acted before → (told ≡ true → AreTold st.design ps st.start)
-    → MarksInTurn st ps sets.moves before.verdicts middle.verdicts → IsSeenAfter st ps seen middle → AreMarksOf ps after → MarksMachines st ps told middle.verdicts after.verdicts
-    → AtRest st.design ps (closed st (points_of ps)) x acted after seen × AreTold st.design ps (closed st (points_of ps))
+    → MarksInTurn st ps sets.moves before.verdicts middle.verdicts → IsSeenAfter st ps seen middle → AreMarksOf ps after → MarksMachines st ps (not st.listed || told) middle.verdicts after.verdicts
+    → AtRest st.design ps (closed st (points_of ps)) x acted after seen × (st.listed ≡ true → AreTold st.design ps (closed st (points_of ps)))

@@ -1,6 +1,6 @@
 //! The state machines of a design, by their signals.
 
-ghost use Rattle.std.specs.Prelude.{◌≡◌, ◌≤◌, ◌^◌, IfOk, List, false, length, true};
+ghost use Rattle.std.specs.Prelude.{◌≡◌, ◌≤◌, ◌^◌, ◌||◌, IfOk, List, false, length, not};
 ghost use Rattle.body_replay.specs.Store.{Kept};
 ghost use Rattle.cover_marks.specs.Marks.{AreMarksOf};
 ghost use Rattle.cover_points.specs.Listed.{IsPointList};
@@ -48,7 +48,7 @@ impl MachineMarks {
     }
 
     /// Marks the states and arcs, over the step that ends at this time, of the machines of what may move: `moves`, in which memories are
-    /// passed over. At the first step of the window the states of all machines are marked. It takes time for what may move, and for the
+    /// passed over. At the first listed time of the window the states of all machines are marked. It takes time for what may move, and for the
     /// states of its machines.
     pub fn mark(
         &mut self,
@@ -58,6 +58,7 @@ impl MachineMarks {
         values: &StepValues,
         store: &Store,
         time: u64,
+        listed: bool,
         marks: &mut Marks,
     )
         requires design { FitsMachines (design_view design.now) points.now self.old.index }
@@ -65,14 +66,14 @@ impl MachineMarks {
         requires fits { FitsSignals (design_view design.now) values.now }
         requires marks { AreMarksOf points.now marks.old }
         ensures index { self.new.index ≡ self.old.index }
-        ensures told { self.new.told ≡ true }
+        ensures told { self.new.told ≡ listed }
         ensures points { AreMarksOf points.now marks.new }
-        ensures machines { (st : Closing) → IsOver st moves.now time store.now values.now → MarksMachines st points.now self.old.told marks.old.verdicts marks.new.verdicts }
+        ensures machines { (st : Closing) → IsOver st moves.now time listed store.now values.now → MarksMachines st points.now (not listed || self.old.told) marks.old.verdicts marks.new.verdicts }
     {
-        if !self.told {
+        if listed && !self.told {
             mark_all_states(design, points, store, time, marks);
-            self.told = true;
         }
+        self.told = listed;
         for thing in moves {
             mark_thing(
                 *thing,
@@ -82,6 +83,7 @@ impl MachineMarks {
                 values,
                 store,
                 time,
+                listed,
                 marks,
             );
         }
@@ -113,6 +115,7 @@ fn mark_thing(
     values: &StepValues,
     store: &Store,
     time: u64,
+    listed: bool,
     marks: &mut Marks,
 )
     requires design { FitsMachines (design_view design.now) points.now index.now }
@@ -120,18 +123,20 @@ fn mark_thing(
     requires fits { FitsSignals (design_view design.now) values.now }
     requires marks { AreMarksOf points.now marks.old }
     ensures points { AreMarksOf points.now marks.new }
-    ensures machines { (st : Closing) → IsMoving st thing time store.now values.now → MarksThing st points.now thing marks.old.verdicts marks.new.verdicts }
+    ensures machines { (st : Closing) → IsMoving st thing time listed store.now values.now → MarksThing st points.now thing marks.old.verdicts marks.new.verdicts }
 {
     if thing >= design.signals.len() {
         return;
     }
     let signal = thing as u32;
     let numbers = index.of_signal(signal);
-    let before = values.before(signal);
     let after = known_signal(store, signal);
+    let before = values.before_step(signal, &after, listed);
     let machines = points.machines.as_slice();
     for number in numbers {
         let machine = &machines[*number as usize];
-        mark_machine(marks, points, *number, machine, &before, &after, time);
+        mark_machine(
+            marks, points, *number, machine, &before, &after, listed, time,
+        );
     }
 }

@@ -1,5 +1,5 @@
 -- A signal of which the toggles are marked, and what marking it asks and gives.
-use Rattle.std.proofs.Common.{◌≡◌, ◌∙◌, ℕ, ◌+◌, ◌<◌, ◌≤◌, ◌^◌, ⊎_elim, true, false, List, [], ◌∷◌, length, map, min, max, Some, None, sym, ap, subst, arith}
+use Rattle.std.proofs.Common.{◌≡◌, ◌∙◌, ℕ, ◌+◌, ◌<◌, ◌≤◌, ◌^◌, ⊎_elim, Bool, true, false, List, [], ◌∷◌, length, map, min, max, Some, None, sym, ap, subst, arith}
 use Rattle.std.specs.Prelude.{nat_le, slice_get}
 use Rattle.std.proofs.lemmas.Bool.{cases_lt}
 use Rattle.std.proofs.lemmas.Bool.Decides.{nat_tests}
@@ -21,10 +21,10 @@ use Rattle.cover_marks.specs.cover_points.design_machines.state_machines.Machine
 use Rattle.design_model.specs.View.{design_view}
 use Rattle.design_model.specs.declared.design.Signal.{Signal}
 use Rattle.point_marks.specs.declared.verdict.Verdict.{Verdict}
-use Rattle.step_parts.specs.replay_model.Step.{Closing, all_run}
+use Rattle.step_parts.specs.replay_model.Step.{Closing, all_run, known_bits}
 use Rattle.signal_marks.specs.Seen.{MarksChange}
 use Rattle.signal_marks.specs.Toggled.{IsIndexed, ListsBoth}
-use Rattle.step_parts.specs.step_values.Vectors.{FitsSignals, StepVectors, vector_at}
+use Rattle.step_parts.specs.step_values.Vectors.{FitsSignals, StepVectors, bits_before, vector_at}
 use Rattle.step_parts.specs.store_knowledge.Knows.{Knows}
 use Rattle.toggle_laws.specs.Turns.{IsMarkable, MarksMoved}
 use Rattle.toggle_laws.proofs.Lists.{markable}
@@ -89,7 +89,7 @@ module _ (d : Design) (s : ℕ) (x : Signal) (lawful : IsLawfulDesign d) (found 
 
 -- ---- what it gives
 
-module _ (d : Design) (st : Closing) (ps : Points) (s time : ℕ) (x : Signal) (store : Store) (v : StepVectors) (seen : List Toggles) (m : Marks) (lawful : IsLawfulDesign d) (found : Some x ≡ slice_get d.signals s) (own : design_view store.design.now ≡ d) (over : IsOver st ps (s ∷ []) time store v seen m) where
+module _ (d : Design) (st : Closing) (ps : Points) (s time : ℕ) (on : Bool) (x : Signal) (store : Store) (v : StepVectors) (seen : List Toggles) (m : Marks) (lawful : IsLawfulDesign d) (found : Some x ≡ slice_get d.signals s) (own : design_view store.design.now ≡ d) (over : IsOver st ps (s ∷ []) time on store v seen m) where
   design_is : d ≡ st.design
   design_is = sym own ∙ over.values.knows.design
 
@@ -103,7 +103,8 @@ module _ (d : Design) (st : Closing) (ps : Points) (s time : ℕ) (x : Signal) (
   lists = (marks_of d s x lawful found over.machines ps (subst (λ e. IsPointList e over.machines ps) (sym design_is) over.listed)).listed
 
   -- the bits before and after are those of the replay
-  pub turn_of : (old new : Partly) (after : List Verdict) → old ≡ vector_at v.before s → ((e : Design) (k : Kept) → Knows e k store → new.bits ≡ map k (signal_cells e s))
+  pub turn_of : (old new : Partly) (after : List Verdict) → old.bits ≡ bits_before on (vector_at v.before s).bits new.bits → ((e : Design) (k : Kept) → Knows e k store → new.bits ≡ map k (signal_cells e s))
       → MarksChange ps x s time old.bits new.bits m.verdicts after → MarksMoved st ps s m.verdicts after
   turn_of old new after aside known h =
-      moved_is st ps s time x old.bits new.bits m.verdicts after signal_is over.time (ap (λ (q : Partly). q.bits) aside ∙ before_is st ps s time store v seen m over within) (known st.design (all_run st).kept over.values.knows) h
+      let now : new.bits ≡ known_bits st.design (all_run st).kept s = known st.design (all_run st).kept over.values.knows in
+      moved_is st ps s time x old.bits new.bits m.verdicts after signal_is over.time (aside ∙ before_is st ps s time on store v seen m over within new.bits now) now h

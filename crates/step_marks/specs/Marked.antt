@@ -1,5 +1,5 @@
 -- The marks of a step once its processes have run.
-use Rattle.std.specs.Prelude.{◌≡◌, ℕ, true, List}
+use Rattle.std.specs.Prelude.{◌≡◌, ℕ, Bool, true, List}
 use Rattle.bit_changes.specs.declared.toggles.Toggles.{Toggles}
 use Rattle.step_parts.specs.body_calls.Own.{is_in}
 use Rattle.step_parts.specs.body_store.declared.store.Store.{Store}
@@ -13,11 +13,12 @@ use Rattle.signal_marks.specs.Seen.{AreSeen}
 use Rattle.step_parts.specs.step_values.Starts.{HasValues}
 use Rattle.step_parts.specs.step_values.Vectors.{StepVectors}
 
--- the processes of the step have run, these may move, and the masks say no more than the marks of the points of the design
-pub record IsOver (st : Closing) (ps : Points) (moving : List ℕ) (end : ℕ) (x : Store) (v : StepVectors) (masks : List Toggles) (m : Marks) : Type 0 where
+-- the processes of the step have run, whose time is listed or not, these may move, and the masks say no more than the marks of the points of the design
+pub record IsOver (st : Closing) (ps : Points) (moving : List ℕ) (end : ℕ) (on_list : Bool) (x : Store) (v : StepVectors) (masks : List Toggles) (m : Marks) : Type 0 where
   pub values : HasValues st (all_run st) x v
   pub moves : (s : ℕ) → is_in moving s ≡ true → st.sets.moves s ≡ true
   pub time : st.time ≡ end
+  pub kind : st.listed ≡ on_list
   pub machines : StateMachines
   pub listed : IsPointList st.design machines ps
   pub marks : AreMarksOf ps m

@@ -1,6 +1,6 @@
 //! The toggles of the signals that may move.
 
-ghost use Rattle.std.specs.Prelude.{◌≡◌, ◌<◌, ◌^◌, ◌∷◌, [], List, length};
+ghost use Rattle.std.specs.Prelude.{◌≡◌, ◌<◌, ◌^◌, ◌∷◌, [], length};
 ghost use Rattle.cover_marks.specs.Marks.{AreMarksOf};
 ghost use Rattle.cover_marks.specs.cover_points.Listed.{IsPointList};
 ghost use Rattle.cover_marks.specs.cover_points.declared.listing.Points.{Points as ThePoints};
@@ -21,14 +21,15 @@ use signal_marks::SignalMarks;
 use step_parts::{StepValues, Store, known_signal};
 
 /// Marks the toggles, over the step that ends at this time, of the signals that may move: `moves`, in which memories are passed
-/// over. `seen` has what is marked already. It takes time for what may move, and for the bits of each signal of which a
-/// toggle is marked for the first time.
+/// over. `on_list` says that the dump lists the time, and `seen` has what is marked already. It takes time for what may move, and
+/// for the bits of each signal of which a toggle is marked for the first time.
 pub fn mark_moved(
     moves: &[usize],
     design: &Design,
     values: &StepValues,
     store: &Store,
     time: u64,
+    on_list: bool,
     seen: &mut SignalMarks,
     marks: &mut Marks,
 )
@@ -40,11 +41,11 @@ pub fn mark_moved(
     requires listed { (machines : StateMachines) × (ps : ThePoints) × IsPointList (design_view design.now) machines ps × AreMarksOf ps marks.old }
     ensures count { length seen.new ≡ length seen.old }
     ensures points { (ps : ThePoints) → AreMarksOf ps marks.old → AreMarksOf ps marks.new }
-    ensures toggles { (st : Closing) (ps : ThePoints) → IsOver st ps moves.now time store.now values.now seen.old marks.old → MarksInTurn st ps moves.now marks.old.verdicts marks.new.verdicts }
-    ensures seen { (st : Closing) (ps : ThePoints) → IsOver st ps moves.now time store.now values.now seen.old marks.old → IsSeenAfter st ps seen.new marks.new }
+    ensures toggles { (st : Closing) (ps : ThePoints) → IsOver st ps moves.now time on_list store.now values.now seen.old marks.old → MarksInTurn st ps moves.now marks.old.verdicts marks.new.verdicts }
+    ensures seen { (st : Closing) (ps : ThePoints) → IsOver st ps moves.now time on_list store.now values.now seen.old marks.old → IsSeenAfter st ps seen.new marks.new }
 {
     for thing in moves {
-        mark_thing(*thing, design, values, store, time, seen, marks);
+        mark_thing(*thing, design, values, store, time, on_list, seen, marks);
     }
 }
 
@@ -55,6 +56,7 @@ fn mark_thing(
     values: &StepValues,
     store: &Store,
     time: u64,
+    on_list: bool,
     seen: &mut SignalMarks,
     marks: &mut Marks,
 )
@@ -66,16 +68,16 @@ fn mark_thing(
     requires listed { (machines : StateMachines) × (ps : ThePoints) × IsPointList (design_view design.now) machines ps × AreMarksOf ps marks.old }
     ensures count { length seen.new ≡ length seen.old }
     ensures points { (ps : ThePoints) → AreMarksOf ps marks.old → AreMarksOf ps marks.new }
-    ensures toggles { (st : Closing) (ps : ThePoints) → IsOver st ps (thing ∷ []) time store.now values.now seen.old marks.old → MarksMoved st ps thing marks.old.verdicts marks.new.verdicts }
-    ensures seen { (st : Closing) (ps : ThePoints) → IsOver st ps (thing ∷ []) time store.now values.now seen.old marks.old → IsSeenAfter st ps seen.new marks.new }
+    ensures toggles { (st : Closing) (ps : ThePoints) → IsOver st ps (thing ∷ []) time on_list store.now values.now seen.old marks.old → MarksMoved st ps thing marks.old.verdicts marks.new.verdicts }
+    ensures seen { (st : Closing) (ps : ThePoints) → IsOver st ps (thing ∷ []) time on_list store.now values.now seen.old marks.old → IsSeenAfter st ps seen.new marks.new }
 {
     let Some(shape) = design.signals.get(thing) else {
         return;
     };
     bound_law(shape);
     let signal = thing as u32;
-    let before = values.before(signal);
     let after = known_signal(store, signal);
+    let before = values.before_step(signal, &after, on_list);
     seen.mark(marks, shape, signal, &before, &after, time);
 }
 

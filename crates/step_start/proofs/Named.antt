@@ -28,6 +28,7 @@ some_step d k w new =
       tables = record { watched = λ p. []; clocked = []; order = []; last = [] };
       sets = sets_of w (λ p. []);
       time = 0;
+      listed = true;
       new = new;
       start = record { kept = k; acted = λ p. false; notes = [] };
     }

@@ -1,5 +1,6 @@
 pub mod Tests
 pub mod Aside
+pub mod Before
 pub mod Bits
 pub mod Forgets
 pub mod Dumps

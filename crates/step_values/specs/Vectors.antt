@@ -1,5 +1,7 @@
 -- What is set aside of each signal in a step: as it was at the start of the step, and as it was made in it.
-use Rattle.std.specs.Prelude.{◌≡◌, ◌<◌, ℕ, true, List, length, map, slice_index_or, slice_set}
+use Rattle.std.specs.Prelude.{◌≡◌, ◌<◌, if◌then◌else◌, ℕ, Bool, true, List, Option, length, map, slice_index_or, slice_set}
+use Rattle.four_state.specs.declared.bit.Bit.{Bit}
+use Rattle.known_state.specs.Join.{joined}
 use Rattle.known_state.specs.Partly.{Partly}
 use Rattle.design_model.specs.Design.{Design, no_signal, signal_cells}
 use Rattle.design_model.specs.declared.design.Signal.{Signal}
@@ -17,6 +19,10 @@ pub record StepVectors : Type 0 where
 -- the vector of a signal
 abbrev pub vector_at : List Partly → ℕ → Partly
 vector_at qs s = slice_index_or qs s no_value
+
+-- the bits before a step: as they were known, and where the time is not listed as far as they are known to be the same after it
+abbrev pub bits_before : Bool → List (Option Bit) → List (Option Bit) → List (Option Bit)
+bits_before listed before after = if listed then before else joined before after
 
 -- there is a vector for each of these signals, as wide as it is
 pub record AreWide (signals : List Signal) (qs : List Partly) : Type 0 where

@@ -5,7 +5,7 @@ ghost use Rattle.store_knowledge.specs.body_replay.Store.{Kept};
 ghost use Rattle.process_targets.specs.Targets.{has_bit};
 ghost use Rattle.store_knowledge.specs.Knows.{Knows};
 ghost use Rattle.step_values.specs.Loose.{forgetting};
-ghost use Rattle.step_values.specs.Vectors.{AreOpened, FitsSignals, IsSetAside, vector_at};
+ghost use Rattle.step_values.specs.Vectors.{AreOpened, FitsSignals, IsSetAside, bits_before, vector_at};
 
 use bit_changes::forgotten;
 use known_state::Known;
@@ -48,6 +48,21 @@ impl StepValues {
         ensures { result ≡ vector_at self.now.before signal }
     {
         self.before[signal as usize]
+    }
+
+    /// What is known of a signal before the step, where this is known of it after the step. A time that the dump does not list may stand for
+    /// more such times, so there it is what is the same before and after.
+    pub fn before_step(&self, signal: u32, after: &Known, listed: bool) -> Known
+        requires place { signal < length self.now.before }
+        requires width { length (vector_at self.now.before signal).bits ≡ length after.now.bits }
+        ensures { result.bits ≡ bits_before listed (vector_at self.now.before signal).bits after.now.bits }
+    {
+        let before = self.before[signal as usize];
+        if listed {
+            before
+        } else {
+            before.join(after, signal)
+        }
     }
 
     /// What was made of a signal in the step.

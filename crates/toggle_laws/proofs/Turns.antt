@@ -23,7 +23,7 @@ use Rattle.mark_laws.specs.cover_points.declared.visit.Visit.TheVariants.{Line, 
 use Rattle.mark_laws.proofs.cover_points.Members.{in_at}
 use Rattle.point_marks.specs.declared.verdict.Verdict.{Verdict}
 use Rattle.point_marks.specs.declared.verdict.Verdict.TheVariants.{Hit, Missed, Undetermined}
-use Rattle.mark_laws.specs.replay_model.Step.{Closing, all_run, bit_may_be, from_bit, known_bits, mark_toggle, point_notes, surely_same, tell, to_bit}
+use Rattle.mark_laws.specs.replay_model.Step.{Closing, all_run, before_of, bit_may_be, from_bit, known_bits, mark_toggle, point_notes, surely_same, tell, to_bit}
 use Rattle.mark_laws.specs.Signals.{with_notes}
 use Rattle.mark_laws.specs.cover_points.MachinePoints.{IsOfMachine}
 use Rattle.signal_marks.specs.Toggled.{index_at, toggled, verdict_of}
@@ -91,9 +91,9 @@ module _ (st : Closing) (ps : Points) where
       passed k other signals middle after rest ∙ first.others k (λ rise i l visit. other s (index_at (signal_at st.design s) i) rise visit.1)
 
   module _ (s p : ℕ) (r : Bool) (k : ℕ) (inside : p < (signal_at st.design s).width) (visit : IsVisitOf ps k (Toggle s (index_at (signal_at st.design s) p) r)) where
-    -- the bit at the start of the step and at its end
+    -- the bit before the step and at its end
     abbrev old : Option Bit
-    old = bit_at (known_bits st.design st.start.kept s) p
+    old = bit_at (known_bits st.design (before_of st) s) p
 
     abbrev new : Option Bit
     new = bit_at (known_bits st.design (all_run st).kept s) p
@@ -128,11 +128,11 @@ module _ (st : Closing) (ps : Points) where
 
   -- what is reported of a toggle point
   toggle_noted : (s i p : ℕ) (r : Bool) (v : Verdict) → IsPlaceOf (signal_at st.design s) i p → with_notes (mark_toggle st (point.Toggle s i r) s (toggle_cell st.design s i) (from_bit r) (to_bit r)) v
-      ≡ toggled s st.time (surely_goes r (bit_at (known_bits st.design st.start.kept s) p) (bit_at (known_bits st.design (all_run st).kept s) p)) (may_go r (bit_at (known_bits st.design st.start.kept s) p) (bit_at (known_bits st.design (all_run st).kept s) p)) v
+      ≡ toggled s st.time (surely_goes r (bit_at (known_bits st.design (before_of st) s) p) (bit_at (known_bits st.design (all_run st).kept s) p)) (may_go r (bit_at (known_bits st.design (before_of st) s) p) (bit_at (known_bits st.design (all_run st).kept s) p)) v
   toggle_noted s i p r v h =
       let d = st.design in
       let x = point.Toggle s i r in
-      let kept = st.start.kept in
+      let kept : Kept = before_of st in
       let last = (all_run st).kept in
       let old : kept (toggle_cell d s i) ≡ bit_at (known_bits d kept s) p = ap kept (names_place d s i p h) ∙ sym (known_at d kept s p h.inside) in
       let new : last (toggle_cell d s i) ≡ bit_at (known_bits d last s) p = ap last (names_place d s i p h) ∙ sym (known_at d last s p h.inside) in
@@ -151,7 +151,7 @@ module _ (st : Closing) (ps : Points) where
         ∙ go (st.sets.moves s) place
       where
         go : (b : Bool) (place : (p : ℕ) × IsPlaceOf (signal_at st.design s) i p)
-            → (if b then toggled s st.time (surely_goes r (bit_at (known_bits st.design st.start.kept s) place.0) (bit_at (known_bits st.design (all_run st).kept s) place.0)) (may_go r (bit_at (known_bits st.design st.start.kept s) place.0) (bit_at (known_bits st.design (all_run st).kept s) place.0)) (verdict_of before k) else verdict_of before k)
+            → (if b then toggled s st.time (surely_goes r (bit_at (known_bits st.design (before_of st) s) place.0) (bit_at (known_bits st.design (all_run st).kept s) place.0)) (may_go r (bit_at (known_bits st.design (before_of st) s) place.0) (bit_at (known_bits st.design (all_run st).kept s) place.0)) (verdict_of before k) else verdict_of before k)
             ≡ with_notes (if b then mark_toggle st (point.Toggle s i r) s (toggle_cell st.design s i) (from_bit r) (to_bit r) else []) (verdict_of before k)
         go true place = sym (toggle_noted s i place.0 r (verdict_of before k) place.1)
         go false place = refl

@@ -8,7 +8,7 @@ use Rattle.mark_laws.specs.cover_points.declared.listing.Points.{Points}
 use Rattle.design_model.specs.Design.{signal_at}
 use Rattle.design_model.specs.declared.design.Signal.{Signal}
 use Rattle.point_marks.specs.declared.verdict.Verdict.{Verdict}
-use Rattle.mark_laws.specs.replay_model.Step.{Closing, all_run, known_bits, point_notes}
+use Rattle.mark_laws.specs.replay_model.Step.{Closing, all_run, before_of, known_bits, point_notes}
 use Rattle.mark_laws.specs.Marked.{verdict_at}
 use Rattle.mark_laws.specs.Signals.{with_notes}
 use Rattle.signal_marks.specs.Seen.{MarksChange}
@@ -18,10 +18,10 @@ use Rattle.signal_marks.specs.Toggled.{ListsBoth}
 abbrev pub AreMoves : Closing → List ℕ → Type 0
 AreMoves st signals = (s : ℕ) → s < length st.design.signals → st.sets.moves s ≡ list_any (λ y. y == s) signals
 
--- the toggle points of a signal are marked by what is known of it at the start of the step and at its end, and no other points
+-- the toggle points of a signal are marked by what is known of it before the step and at its end, and no other points
 abbrev pub MarksMoved : Closing → Points → ℕ → List Verdict → List Verdict → Type 0
 MarksMoved st ps s before after =
-    MarksChange ps (signal_at st.design s) s st.time (known_bits st.design st.start.kept s) (known_bits st.design (all_run st).kept s) before after
+    MarksChange ps (signal_at st.design s) s st.time (known_bits st.design (before_of st) s) (known_bits st.design (all_run st).kept s) before after
 
 -- those of each signal of the list are, in turn
 abbrev pub MarksInTurn : Closing → Points → List ℕ → List Verdict → List Verdict → Type 0

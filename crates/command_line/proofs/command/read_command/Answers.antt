@@ -1,4 +1,4 @@
-use Rattle.std.proofs.Common.{◌≡◌, ◌∙◌, ◌∷◌, ℕ, List, Result, Ok, Err, ap, inl, inr, sym, subst, codes}
+use Rattle.std.proofs.Common.{◌≡◌, ◌∙◌, ℕ, List, ◌∷◌, Result, Ok, Err, ap, sym, subst, inl, inr, codes}
 use Rattle.std.specs.Prelude.{IfErr, IfOk}
 use Rattle.std.specs.Result.{IsOkAnd, MatchResult}
 use Rattle.command_line.specs.Command.{IsCommand}
@@ -6,9 +6,9 @@ use Rattle.command_line.specs.CommandWords.{IsScore, score_values}
 use Rattle.command_line.specs.DatabaseFault.{HasDatabaseFault}
 use Rattle.command_line.specs.UsageFault.{HasUsageFault}
 use Rattle.command_line.specs.WordsLeft.{left_words}
-use Rattle.command_line.specs.declared.database_command.DatabaseCommand.TheVariants.{Report}
+use Rattle.command_line.specs.declared.database_command.DatabaseCommand.TheVariants.{Report, Exclude, Restore}
 use Rattle.command_line.specs.declared.usage_fault.UsageFault.{UsageFault}
-use Rattle.command_line.specs.declared.usage_fault.UsageFault.TheVariants.{NoCommand, UnknownCommand, UnknownWord, GivenTwice, NeedsValue, BadValue, Missing}
+use Rattle.command_line.specs.declared.usage_fault.UsageFault.TheVariants.{NoCommand, UnknownCommand}
 use Rattle.command_line.proofs.command.read_command.Goals as goal
 
 -- what holds of a value gives what holds of the value that it is mapped to
@@ -23,24 +23,42 @@ returns-in-Some-score-clause-command c =
     IfOk-mapped _ _ (IsCommand c.args.words.now) c.read_score.result c.map.result c.read_score.ensures.score c.map.ensures.cases
     (λ score command is mapped. subst (IsCommand c.args.words.now) (sym mapped) (subst (λ words. IsScore words (score_values score)) words is))
 
--- a fault stays as it is
+-- what holds of a fault holds of it where the value was mapped
 IfErr-mapped : {A B E : Type 0} (P : E → Type 0) (Q : A → B → Type 0) (R : E → Type 0) (before : Result A E) (after : Result B E) → IfErr before P → MatchResult before (λ a. IsOkAnd after (Q a)) (λ e. after ≡ Err e) → ((e : E) → P e → R e) → IfErr after R
 IfErr-mapped P Q R (Ok a) (Ok b) holds mapped gives = tt
 IfErr-mapped P Q R (Ok a) (Err e) holds mapped gives = absurd mapped
 IfErr-mapped P Q R (Err e) after holds mapped gives = subst (λ r. IfErr r R) (sym mapped) (gives e holds)
 
--- a fault of the words of a report is one of the words
+-- the fault of one command is one of the words
 report_fault : (words : List (List ℕ)) (fault : UsageFault) → HasDatabaseFault Report words fault → HasUsageFault words fault
-report_fault words NoCommand is = absurd is.3
-report_fault words (UnknownCommand word) is = absurd is.3
-report_fault words (UnknownWord word) is = inr (inr (inl is))
-report_fault words (GivenTwice word) is = inr (inr (inl is))
-report_fault words (NeedsValue word) is = inr (inr (inl is))
-report_fault words (BadValue value) is = inr (inr (inl is))
-report_fault words (Missing word) is = inr (inr (inl is))
+report_fault words NoCommand has = absurd has.3
+report_fault words (UnknownCommand word) has = absurd has.3
+report_fault words fault has = inr (inr (inl has))
+
+exclude_fault : (words : List (List ℕ)) (fault : UsageFault) → HasDatabaseFault Exclude words fault → HasUsageFault words fault
+exclude_fault words NoCommand has = absurd has.3
+exclude_fault words (UnknownCommand word) has = absurd has.3
+exclude_fault words fault has = inr (inr (inr (inr (inr (inl has)))))
+
+restore_fault : (words : List (List ℕ)) (fault : UsageFault) → HasDatabaseFault Restore words fault → HasUsageFault words fault
+restore_fault words NoCommand has = absurd has.3
+restore_fault words (UnknownCommand word) has = absurd has.3
+restore_fault words fault has = inr (inr (inr (inr (inr (inr has)))))
 
 pub returns-in-Some-report-clause-fault : goal.returns-in-Some-report-clause-fault
 returns-in-Some-report-clause-fault c =
     let words : codes "report" ∷ left_words c.next_word.new.self ≡ c.args.words.now = ap (λ word. word ∷ left_words c.next_word.new.self) (sym c.in-Some-report.is-report) ∙ sym c.in-Some-report.ensures.word ∙ c.new-left.ensures in
-    IfErr-mapped (HasDatabaseFault Report (codes "report" ∷ left_words c.next_word.new.self)) _ (HasUsageFault c.args.words.now) c.read_report.result c.map-in-Some-report.result c.read_report.ensures.fault c.map-in-Some-report.ensures.cases
-    (λ fault is. report_fault c.args.words.now fault (subst (λ words. HasDatabaseFault Report words fault) words is))
+    IfErr-mapped _ _ (HasUsageFault c.args.words.now) c.read_report.result c.map-in-Some-report.result c.read_report.ensures.fault c.map-in-Some-report.ensures.cases
+    (λ fault has. report_fault c.args.words.now fault (subst (λ words. HasDatabaseFault Report words fault) words has))
+
+pub returns-in-Some-exclude-clause-fault : goal.returns-in-Some-exclude-clause-fault
+returns-in-Some-exclude-clause-fault c =
+    let words : codes "exclude" ∷ left_words c.next_word.new.self ≡ c.args.words.now = ap (λ word. word ∷ left_words c.next_word.new.self) (sym c.in-Some-exclude.is-exclude) ∙ sym c.in-Some-exclude.ensures.word ∙ c.new-left.ensures in
+    IfErr-mapped _ _ (HasUsageFault c.args.words.now) c.read_exclude.result c.map-in-Some-exclude.result c.read_exclude.ensures.fault c.map-in-Some-exclude.ensures.cases
+    (λ fault has. exclude_fault c.args.words.now fault (subst (λ words. HasDatabaseFault Exclude words fault) words has))
+
+pub returns-in-Some-restore-clause-fault : goal.returns-in-Some-restore-clause-fault
+returns-in-Some-restore-clause-fault c =
+    let words : codes "restore" ∷ left_words c.next_word.new.self ≡ c.args.words.now = ap (λ word. word ∷ left_words c.next_word.new.self) (sym c.in-Some-restore.is-restore) ∙ sym c.in-Some-restore.ensures.word ∙ c.new-left.ensures in
+    IfErr-mapped _ _ (HasUsageFault c.args.words.now) c.read_restore.result c.map-in-Some-restore.result c.read_restore.ensures.fault c.map-in-Some-restore.ensures.cases
+    (λ fault has. restore_fault c.args.words.now fault (subst (λ words. HasDatabaseFault Restore words fault) words has))

@@ -7,10 +7,10 @@ pub loop-word-preserved-in_default-option_named : goal.loop-word-preserved-in_de
 loop-word-preserved-in_default-option_named c =
     HasRead-file c.args.command _ _ _ _ _ c.in-Some.word.now
     c.loop-word.invariant c.in-Some.ensures.word
-    (grind (arith, common_steps)) (grind (arith, common_steps)) c.add_file.ensures.values c.add_file.ensures.files
+    (grind (arith, common_steps)) (grind (arith, common_steps)) c.add_file.ensures.values c.add_file.ensures.files c.add_file.ensures.words
 
 pub loop-word-preserved : goal.loop-word-preserved
 loop-word-preserved c =
     HasRead-option c.args.command _ _ _ _ _ _ c.in-Some-option_named.option c.in-Some.word.now c.in-Some-value_behind.value.now
     c.loop-word.invariant c.in-Some.ensures.word c.in-Some-value_behind.ensures.value c.in-Some-option_named.ensures.named
-    (grind (arith, common_steps)) (grind (arith, common_steps)) c.set.ensures.values c.set.ensures.files
+    (grind (arith, common_steps)) (grind (arith, common_steps)) c.set.ensures.values c.set.ensures.files c.set.ensures.words

@@ -16,3 +16,6 @@ returns-in-NoDatabase-clause-line g c = rw c.in-NoDatabase.is c.warn_kind.ensure
 
 pub returns-in-DesignsDiffer-clause-line : goal.returns-in-DesignsDiffer-clause-line
 returns-in-DesignsDiffer-clause-line g c = rw c.in-DesignsDiffer.is (WarnsLine-is _ _ (g.H.Host.outside c.args.host.now) (g.H.Host.outside c.warn_difference.new.host) (search (rules, append_assoc, c.as_slice.ensures, c.as_slice-in-DesignsDiffer.ensures)) c.warn_difference.ensures.line)
+
+pub returns-in-Point-clause-line : goal.returns-in-Point-clause-line
+returns-in-Point-clause-line g c = rw c.in-Point.is (WarnsLine-is _ _ (g.H.Host.outside c.args.host.now) (g.H.Host.outside c.warn_fault.new.host) (search (rules, append_assoc, c.text_of_refusal.ensures)) c.warn_fault.ensures.line)

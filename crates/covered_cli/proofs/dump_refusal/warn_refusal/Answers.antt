@@ -8,8 +8,5 @@ returns-in-At-clause-line g c = rw c.in-At.is c.warn_fault.ensures.line
 pub returns-in-NoInstance-clause-line : goal.returns-in-NoInstance-clause-line
 returns-in-NoInstance-clause-line g c = rw c.in-NoInstance.is c.warn_instance.ensures.line
 
-pub returns-in-InputNotDumped-clause-line : goal.returns-in-InputNotDumped-clause-line
-returns-in-InputNotDumped-clause-line g c = rw c.in-InputNotDumped.is (WarnsLine-is _ _ (g.H.Host.outside c.args.host.now) (g.H.Host.outside c.warn_signal.new.host) (search (rules, append_assoc, c.as_slice.ensures)) c.warn_signal.ensures.line)
-
 pub returns-in-NoBaseline-clause-line : goal.returns-in-NoBaseline-clause-line
-returns-in-NoBaseline-clause-line g c = rw c.in-NoBaseline.is (WarnsLine-is _ _ (g.H.Host.outside c.args.host.now) (g.H.Host.outside c.warn_signal-in-NoBaseline.new.host) (search (rules, append_assoc, c.as_slice-in-NoBaseline.ensures)) c.warn_signal-in-NoBaseline.ensures.line)
+returns-in-NoBaseline-clause-line g c = rw c.in-NoBaseline.is (WarnsLine-is _ _ (g.H.Host.outside c.args.host.now) (g.H.Host.outside c.warn_signal.new.host) (search (rules, append_assoc, c.as_slice.ensures)) c.warn_signal.ensures.line)

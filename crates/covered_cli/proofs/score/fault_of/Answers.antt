@@ -1,10 +1,7 @@
 use Rattle.command_line.specs.CommandWords.{score_values}
 use Rattle.covered_cli.specs.ScoreMachines.{habit_when}
-use Rattle.covered_cli.proofs.Refusing.{bind_named, bind_refused, replay_named, replay_refused}
+use Rattle.covered_cli.proofs.Refusing.{bind_refused, replay_named, replay_refused}
 use Rattle.covered_cli.proofs.score.fault_of.Goals as goal
-
-pub bind_refusal-requires-clause-signal : goal.bind_refusal-requires-clause-signal
-bind_refusal-requires-clause-signal c = bind_named c.args.words.now.dump.now c.requires.fault.0 c.requires.fault.1 (habit_when c.args.words.now.late) c.args.design.now c.args.words.now.instance.now c.in-Bind.fault (rw c.in-Bind.is at c.requires.fault.2)
 
 pub replay_refusal-requires-clause-signal : goal.replay_refusal-requires-clause-signal
 replay_refusal-requires-clause-signal c = replay_named c.args.words.now.dump.now c.requires.fault.0 c.requires.fault.1 (habit_when c.args.words.now.late) c.args.design.now c.args.words.now.instance.now c.in-Replay.fault (rw c.in-Replay.is at c.requires.fault.2)

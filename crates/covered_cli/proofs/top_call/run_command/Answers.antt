@@ -11,3 +11,9 @@ returns-in-Err-run_lcov-clause-left g c = rw c.in-Lcov.is c.in-Err-run_lcov.ensu
 
 pub returns-in-Err-run_rank-clause-left : goal.returns-in-Err-run_rank-clause-left
 returns-in-Err-run_rank-clause-left g c = rw c.in-Rank.is c.in-Err-run_rank.ensures.left
+
+pub returns-in-Err-run_exclude-clause-left : goal.returns-in-Err-run_exclude-clause-left
+returns-in-Err-run_exclude-clause-left g c = rw c.in-Exclude.is c.in-Err-run_exclude.ensures.left
+
+pub returns-in-Err-run_restore-clause-left : goal.returns-in-Err-run_restore-clause-left
+returns-in-Err-run_restore-clause-left g c = rw c.in-Restore.is c.in-Err-run_restore.ensures.left

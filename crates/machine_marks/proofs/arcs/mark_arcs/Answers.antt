@@ -1,4 +1,4 @@
-use Rattle.std.proofs.Common.{◌∙◌, ◌+◌, false, length, ap, refl, sym, arith}
+use Rattle.std.proofs.Common.{◌∙◌, ◌+◌, length, ap, refl, sym, arith}
 use Rattle.std.proofs.lemmas.Bool.{false≢true}
 use Rattle.mark_laws.specs.replay_model.Step.{are_surely, may_be}
 use Rattle.machine_marks.specs.Marked.{chances_from, chances_of, is_arc_below, is_arc_from, is_possible, is_sure}

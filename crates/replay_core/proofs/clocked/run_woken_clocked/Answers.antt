@@ -107,3 +107,15 @@ pub returns-clause-unwritten : goal.returns-clause-unwritten
 returns-clause-unwritten g c = λ st is are knows marks.
     let s = c.args.state.now in
     c.run_clocked.ensures.unwritten st (subst (λ codes. IsClockedStep st s.notes.points.now (state_of c.args.room.now.step.sets) c.args.habit codes s.values c.args.time) (sym c.as_slice.ensures.value) is) are knows marks
+
+-- ---- what is known and reported after it
+
+pub returns-clause-knows : goal.returns-clause-knows
+returns-clause-knows g c = λ st is are knows marks.
+    let s = c.args.state.now in
+    c.run_clocked.ensures.knows st (subst (λ codes. IsClockedStep st s.notes.points.now (state_of c.args.room.now.step.sets) c.args.habit codes s.values c.args.time) (sym c.as_slice.ensures.value) is) are knows marks
+
+pub returns-clause-verdicts : goal.returns-clause-verdicts
+returns-clause-verdicts g c = λ st is are knows marks.
+    let s = c.args.state.now in
+    c.run_clocked.ensures.verdicts st (subst (λ codes. IsClockedStep st s.notes.points.now (state_of c.args.room.now.step.sets) c.args.habit codes s.values c.args.time) (sym c.as_slice.ensures.value) is) are knows marks

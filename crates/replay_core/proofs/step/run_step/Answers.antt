@@ -1,4 +1,4 @@
-use Rattle.std.proofs.Common.{◌≡◌, ◌∙◌, ◌+◌, ◌<◌, ℕ, Some, flat_map, length, map, ap, refl, subst, sym, arith}
+use Rattle.std.proofs.Common.{◌≡◌, ◌∙◌, ◌+◌, ◌<◌, ◌||◌, not, ℕ, Some, flat_map, length, map, ap, refl, subst, sym, arith}
 use Rattle.std.specs.List.{All}
 use Rattle.std.proofs.lemmas.List.{length-map}
 use Rattle.std.proofs.lemmas.List.Elements.{All-weaker}
@@ -206,9 +206,9 @@ returns-in-Some-clause-refutes g c =
     let steps = w.steps ∙ ap (λ (y : ReplayRoom). c.args.steps.now + length y.ran.items) (sym v.room) in
     let k = c.settle_step.new.room in
     let one = c.in-Some.found in
-    refutes_begun d habit points x r s n time q u written ran k one
-    (for_step d habit points x r s n time q u written ran (λ o early marks. IsContradicted o (state_of k.sets) early one) u.values c.as_slice.result.now given c.as_slice.ensures c.in-Some.ensures.contradicted)
-    (for_step d habit points x r s n time q u written ran (λ o early marks. IsLeastMoved (step_of o (state_of k.sets) early) k.changed.items k.overwritten.items (Some one)) u.values c.as_slice.result.now given c.as_slice.ensures c.in-Some.ensures.least)
+    refutes_begun d habit points x r s n time c.args.listed q u written ran k one
+    (for_step d habit points x r s n time c.args.listed q u written ran (λ o early marks. IsContradicted o (state_of k.sets) early one) u.values c.as_slice.result.now given c.as_slice.ensures c.in-Some.ensures.contradicted)
+    (for_step d habit points x r s n time c.args.listed q u written ran (λ o early marks. IsLeastMoved (step_of o (state_of k.sets) early) k.changed.items k.overwritten.items (Some one)) u.values c.as_slice.result.now given c.as_slice.ensures c.in-Some.ensures.least)
 
 pub returns-in-Some-clause-counts : goal.returns-in-Some-clause-counts
 returns-in-Some-clause-counts g c =
@@ -233,7 +233,7 @@ returns-in-Some-clause-counts g c =
     let acted = ap (λ (y : ReplayState). y.acted) v.state ∙ w.acted in
     let noted = v.points ∙ w.points in
     let steps = w.steps ∙ ap (λ (y : ReplayRoom). c.args.steps.now + length y.ran.items) (sym v.room) in
-    counts_clocked d habit points x r s n time q u written ran c.args.steps.now c.run_woken_clocked.new.steps steps
+    counts_clocked d habit points x r s n time c.args.listed q u written ran c.args.steps.now c.run_woken_clocked.new.steps steps
 
 pub returns-in-Some-check_step-clause-refutes : goal.returns-in-Some-check_step-clause-refutes
 returns-in-Some-check_step-clause-refutes g c =
@@ -261,10 +261,10 @@ returns-in-Some-check_step-clause-refutes g c =
     let k = c.settle_step.new.room in
     let store = c.settle_step.new.store in
     let changed = settled_changed x.step.codes.items s.values u.values n q k given ran.step c.settle_step.ensures.changed e.changed in
-    let begun = for_step d habit points x r s n time q u written ran (λ o early marks. HasBegun o (state_of k.sets) early (listed_of k) k.values store marks) u.values c.as_slice.result.now given c.as_slice.ensures c.in_default.ensures.begun in
+    let begun = for_step d habit points x r s n time c.args.listed q u written ran (λ o early marks. HasBegun o (state_of k.sets) early (listed_of k) k.values store marks) u.values c.as_slice.result.now given c.as_slice.ensures c.in_default.ensures.begun in
     let z = c.run_woken in
     let one = c.in-Some-check_step.found in
-    refutes_run d habit points x r s n time q u written ran k store c.requires.fits.tables changed begun z.new.room z.new.state c.words_law.ensures.start c.settle_step.ensures.sets (ap (λ a. a.items) acted) z.ensures.sets noted z.ensures.step z.ensures.ran one
+    refutes_run d habit points x r s n time c.args.listed q u written ran k store c.requires.fits.tables changed begun z.new.room z.new.state c.words_law.ensures.start c.settle_step.ensures.sets (ap (λ a. a.items) acted) z.ensures.sets noted z.ensures.step z.ensures.ran one
     (subst (λ (vs : Values). IsFirstDifference x.step.codes.items vs.last z.new.room.step.values.made (last_of_each (flat_map (row_at x.checks) z.new.room.ran.items)) one) (z.ensures.values ∙ given) c.in-Some-check_step.ensures.some)
 
 pub returns-in-Some-check_step-clause-counts : goal.returns-in-Some-check_step-clause-counts
@@ -293,10 +293,10 @@ returns-in-Some-check_step-clause-counts g c =
     let k = c.settle_step.new.room in
     let store = c.settle_step.new.store in
     let changed = settled_changed x.step.codes.items s.values u.values n q k given ran.step c.settle_step.ensures.changed e.changed in
-    let begun = for_step d habit points x r s n time q u written ran (λ o early marks. HasBegun o (state_of k.sets) early (listed_of k) k.values store marks) u.values c.as_slice.result.now given c.as_slice.ensures c.in_default.ensures.begun in
+    let begun = for_step d habit points x r s n time c.args.listed q u written ran (λ o early marks. HasBegun o (state_of k.sets) early (listed_of k) k.values store marks) u.values c.as_slice.result.now given c.as_slice.ensures c.in_default.ensures.begun in
     let z = c.run_woken in
     let from = c.args.steps.now in
-    counts_run d habit points x r s n time q u written ran k store c.requires.fits.tables changed begun from z.new.steps (steps_both from c.run_woken_clocked.new.steps z.new.steps q.ran.items k.list.pairs steps z.ensures.steps)
+    counts_run d habit points x r s n time c.args.listed q u written ran k store c.requires.fits.tables changed begun from z.new.steps (steps_both from c.run_woken_clocked.new.steps z.new.steps q.ran.items k.list.pairs steps z.ensures.steps)
 
 pub returns-clause-counts : goal.returns-clause-counts
 returns-clause-counts g c =
@@ -324,10 +324,10 @@ returns-clause-counts g c =
     let k = c.settle_step.new.room in
     let store = c.settle_step.new.store in
     let changed = settled_changed x.step.codes.items s.values u.values n q k given ran.step c.settle_step.ensures.changed e.changed in
-    let begun = for_step d habit points x r s n time q u written ran (λ o early marks. HasBegun o (state_of k.sets) early (listed_of k) k.values store marks) u.values c.as_slice.result.now given c.as_slice.ensures c.in_default.ensures.begun in
+    let begun = for_step d habit points x r s n time c.args.listed q u written ran (λ o early marks. HasBegun o (state_of k.sets) early (listed_of k) k.values store marks) u.values c.as_slice.result.now given c.as_slice.ensures c.in_default.ensures.begun in
     let z = c.run_woken in
     let from = c.args.steps.now in
-    counts_run d habit points x r s n time q u written ran k store c.requires.fits.tables changed begun from z.new.steps (steps_both from c.run_woken_clocked.new.steps z.new.steps q.ran.items k.list.pairs steps z.ensures.steps)
+    counts_run d habit points x r s n time c.args.listed q u written ran k store c.requires.fits.tables changed begun from z.new.steps (steps_both from c.run_woken_clocked.new.steps z.new.steps q.ran.items k.list.pairs steps z.ensures.steps)
 
 pub returns-clause-closes : goal.returns-clause-closes
 returns-clause-closes g c =
@@ -355,7 +355,7 @@ returns-clause-closes g c =
     let k = c.settle_step.new.room in
     let store = c.settle_step.new.store in
     let changed = settled_changed x.step.codes.items s.values u.values n q k given ran.step c.settle_step.ensures.changed e.changed in
-    let begun = for_step d habit points x r s n time q u written ran (λ o early marks. HasBegun o (state_of k.sets) early (listed_of k) k.values store marks) u.values c.as_slice.result.now given c.as_slice.ensures c.in_default.ensures.begun in
+    let begun = for_step d habit points x r s n time c.args.listed q u written ran (λ o early marks. HasBegun o (state_of k.sets) early (listed_of k) k.values store marks) u.values c.as_slice.result.now given c.as_slice.ensures c.in_default.ensures.begun in
     let z = c.run_woken in
     let a = z.new.room in
     let o = z.new.state in
@@ -371,12 +371,12 @@ returns-clause-closes g c =
     let last_given = z.ensures.values ∙ given in
     let told = ap (λ ms. ms.told) (z.ensures.machines ∙ ap (λ (f : ReplayState). f.machines) v.state ∙ w.machines) in
     let moves_same = c.moves.ensures.value ∙ sym c.moves-2.ensures.value in
-    let to : (st : Closing) → IsOver st points moves time o.store a.step.values s.seen o.notes.marks → IsOver st o.notes.points.now moves time o.store b.new.room.step.values o.seen o.notes.marks = λ st i.
-    subst (λ ps. IsOver st ps moves time o.store b.new.room.step.values o.seen o.notes.marks) (sym marked)
-    (subst (λ (f : ReplayRoom). IsOver st points moves time o.store f.step.values o.seen o.notes.marks) (sym b.ensures.room)
-    (subst (λ ms. IsOver st points moves time o.store a.step.values ms o.notes.marks) (sym seen) i)) in
-    subst (λ f. Closes (made_with d habit points x) time (parts_with r s) (parts_with f y)) (sym b.ensures.room)
-    (closes_run d habit points x r s n time q u written ran k store c.requires.fits.tables changed begun a o c.words_law.ensures.start c.settle_step.ensures.sets (ap (λ a. a.items) acted) z.ensures.sets noted z.ensures.step z.ensures.ran y c.mark_step.new.notes.marks moves
+    let to : (st : Closing) → IsOver st points moves time c.args.listed o.store a.step.values s.seen o.notes.marks → IsOver st o.notes.points.now moves time c.args.listed o.store b.new.room.step.values o.seen o.notes.marks = λ st i.
+    subst (λ ps. IsOver st ps moves time c.args.listed o.store b.new.room.step.values o.seen o.notes.marks) (sym marked)
+    (subst (λ (f : ReplayRoom). IsOver st points moves time c.args.listed o.store f.step.values o.seen o.notes.marks) (sym b.ensures.room)
+    (subst (λ ms. IsOver st points moves time c.args.listed o.store a.step.values ms o.notes.marks) (sym seen) i)) in
+    subst (λ f. Closes (made_with d habit points x) time c.args.listed (parts_with r s) (parts_with f y)) (sym b.ensures.room)
+    (closes_run d habit points x r s n time c.args.listed q u written ran k store c.requires.fits.tables changed begun a o c.words_law.ensures.start c.settle_step.ensures.sets (ap (λ a. a.items) acted) z.ensures.sets noted z.ensures.step z.ensures.ran y c.mark_step.new.notes.marks moves
     (subst (λ (vs : Values). All (AgreesAt codes vs.last a.step.values.made) (last_of_each (flat_map (row_at x.checks) a.ran.items))) last_given c.in_default-check_step.ensures.none)
     (c.moves.ensures.value ∙ ap (λ (f : ReplayRoom). (state_of f.step.sets).moves) b.ensures.room ∙ ap (λ ws. (state_of ws).moves) z.ensures.sets)
     all.room.sets all.room.writers of refl refl
@@ -385,9 +385,10 @@ returns-clause-closes g c =
     (λ st i. subst (λ ps. MarksInTurn st ps moves o.notes.marks.verdicts c.mark_step.new.notes.marks.verdicts) marked (last.toggles st (to st i)))
     (λ st i. subst (λ ps. IsSeenAfter st ps y.seen c.mark_step.new.notes.marks) marked (last.seen st (to st i)))
     (subst (λ ps. AreMarksOf ps y.notes.marks) (last.points ∙ marked) c.mark_machines.ensures.marks)
-    (λ st i. subst (λ b. MarksMachines st points b c.mark_step.new.notes.marks.verdicts y.notes.marks.verdicts) told
-    (subst (λ ps. MarksMachines st ps o.machines.told c.mark_step.new.notes.marks.verdicts y.notes.marks.verdicts) (last.points ∙ marked)
-    (c.mark_machines.ensures.machines st (subst (λ ms. IsMachineStep st ms time o.store b.new.room.step.values) moves_same (subst (λ (f : ReplayRoom). IsMachineStep st moves time o.store f.step.values) (sym b.ensures.room) i))))))
+    (λ st i. subst (λ b. MarksMachines st points (not c.args.listed || b) c.mark_step.new.notes.marks.verdicts y.notes.marks.verdicts) told
+    (subst (λ ps. MarksMachines st ps (not c.args.listed || o.machines.told) c.mark_step.new.notes.marks.verdicts y.notes.marks.verdicts) (last.points ∙ marked)
+    (c.mark_machines.ensures.machines st (subst (λ ms. IsMachineStep st ms time c.args.listed o.store b.new.room.step.values) moves_same (subst (λ (f : ReplayRoom). IsMachineStep st moves time c.args.listed o.store f.step.values) (sym b.ensures.room) i)))))
+    c.mark_machines.ensures.told)
 
 -- ---- the parts after it
 

@@ -1,4 +1,4 @@
-use Rattle.std.proofs.Common.{◌≡◌, ◌∙◌, ◌++◌, ap, length, map, refl, subst, sym}
+use Rattle.std.proofs.Common.{◌≡◌, ◌∙◌, ◌++◌, ◌↔◌, ap, false, IfNone, IfSome, length, map, refl, subst, sym}
 use Rattle.std.proofs.lemmas.List.{length-map}
 use Rattle.design_model.specs.View.{design_view, process_view}
 use Rattle.process_order.specs.Needs.{is_bound}
@@ -8,8 +8,10 @@ use Rattle.run_order.specs.Ranked.{AreRanksOf}
 use Rattle.first_step.specs.step_changes.Changes.{AreSignalsOf}
 use Rattle.first_step.specs.step_check.Checks.{AreCheckRows}
 use Rattle.first_step.specs.step_values.Loose.{has_code}
-use Rattle.replay_core.specs.Fits.{FitsTables}
+use Rattle.replay_core.specs.Codes.{flags_of}
+use Rattle.replay_core.specs.Fits.{FitsTables, HasInputs, IsUnbound}
 use Rattle.replay_core.proofs.Codes.{bound_is}
+use Rattle.replay_core.proofs.Inputs.{lacks_is}
 use Rattle.replay_core.proofs.tables.make_tables.Goals as goal
 
 pub step_tables-requires-clause-tabled : goal.step_tables-requires-clause-tabled
@@ -37,4 +39,7 @@ returns-clause-fits c =
       rows = c.rows_law.ensures d (has_code codes) order processes.watched step.targets step.written c.in_ok-wakes.wakes c.requires.lawful tabled (λ p. refl) (c.in_ok-processes.ensures.count ∙ sym size) is.targets is.written c.in_ok-wakes.ensures;
       wakes = c.in_ok-wakes.ensures;
       checks = subst (λ cs. AreCheckRows cs step.targets c.in_ok-checks.checks) c.as_slice.ensures.value c.in_ok-checks.ensures;
+      inputs = subst (λ cs. (c.is_some-lacks_input.result ≡ false) ↔ HasInputs D.signals (flags_of cs)) (sym is.codes) (subst (λ o. (o ≡ false) ↔ HasInputs D.signals (flags_of codes)) (sym c.is_some-lacks_input.ensures) (lacks_is D.signals (flags_of codes) c.first_unbound-unbound.result
+          (subst (λ bs. IfSome c.first_unbound-unbound.result (IsUnbound D.signals bs)) c.requires.bound (subst (λ ss. IfSome c.first_unbound-unbound.result (IsUnbound ss c.args.bound.now)) c.as_slice-2.ensures c.first_unbound-unbound.ensures.first))
+          (subst (λ bs. IfNone c.first_unbound-unbound.result (HasInputs D.signals bs)) c.requires.bound (subst (λ ss. IfNone c.first_unbound-unbound.result (HasInputs ss c.args.bound.now)) c.as_slice-2.ensures c.first_unbound-unbound.ensures.none))));
     })

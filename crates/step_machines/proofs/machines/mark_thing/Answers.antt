@@ -1,11 +1,13 @@
-use Rattle.std.proofs.Common.{◌≡◌, ◌∙◌, ◌≤◌, ◌<◌, ℕ, List, length, get_or, ap, subst, sym, arith}
+use Rattle.std.proofs.Common.{◌≡◌, ◌∙◌, ◌≤◌, ◌<◌, ℕ, List, length, get_or, ap, ap₂, subst, sym, arith}
 use Rattle.std.proofs.lemmas.List.{get_or_default, take_all, take_more}
 use Rattle.cover_points.specs.Listed.{IsPointList}
 use Rattle.cover_points.specs.design_machines.declared.machine.Machine.{Machine}
 use Rattle.design_model.specs.Design.{Design, signal_at}
 use Rattle.design_model.specs.View.{design_view}
 use Rattle.machine_marks.specs.Marked.{MarksMachine}
-use Rattle.step_parts.specs.replay_model.Step.{all_run, known_bits}
+use Rattle.step_parts.specs.replay_model.Step.{all_run, before_of, known_bits}
+use Rattle.step_parts.proofs.step_values.Before.{before_bits, before_length}
+use Rattle.step_parts.specs.step_values.Vectors.{bits_before, vector_at}
 use Rattle.step_machines.proofs.Fits.{found_at, found_few, found_wide, known_width}
 use Rattle.step_machines.proofs.Marked.{MarksNumbers, all_numbers, no_signal_marked, one_number}
 use Rattle.step_machines.proofs.machines.mark_thing.Goals as goal
@@ -28,6 +30,12 @@ bounds-machines-number c =
     let has = (c.of_signal-numbers.ensures c.args.points.now.machines.items (length c.args.design.now.signals) k c.requires.design.index inside).0 (i, c.loop-number-test.true, get_or_default ns i k 0 c.loop-number-test.true) in
     subst (λ (ms : List Machine). k < length ms) (sym c.as_slice-machines.ensures.value) has.0
 
+pub before_step-before-requires-clause-width : goal.before_step-before-requires-clause-width
+before_step-before-requires-clause-width c =
+    let d = design_view c.args.design.now in
+    let inside : c.args.thing < length c.args.design.now.signals = omega (arith, c.if-thing-len.false, c.len.ensures) in
+    c.requires.fits.before.width c.args.thing inside ∙ sym (known_width d c.requires.known.0 c.args.thing c.known_signal-after.result.bits (c.known_signal-after.ensures d c.requires.known.0 c.requires.known.1))
+
 pub mark_machine-requires-clause-before : goal.mark_machine-requires-clause-before
 mark_machine-requires-clause-before c =
     let d = design_view c.args.design.now in
@@ -42,8 +50,10 @@ mark_machine-requires-clause-before c =
     let within = subst (λ (ms : List Machine). k < length ms) (sym c.as_slice-machines.ensures.value) has.0 in
     let at = found_at d fits.machines ps fits.listed k x c.as_slice-machines.result.now c.as_slice-machines.ensures.value within c.index-machines-number.is in
     let signal : x.signal ≡ c.args.thing = ap (λ (y : Machine). y.signal) at ∙ has.1 in
-    let wide = ap (λ q. length q.bits) c.before-before.ensures ∙ c.requires.fits.before.width c.args.thing inside in
-    found_wide d fits.machines ps fits.listed k x c.as_slice-machines.result.now c.as_slice-machines.ensures.value within c.index-machines-number.is (length c.before-before.result.bits) (wide ∙ ap (λ s. (signal_at d s).width) (sym signal))
+    let old = c.requires.fits.before.width c.args.thing inside in
+    let new = known_width d c.requires.known.0 c.args.thing c.known_signal-after.result.bits (c.known_signal-after.ensures d c.requires.known.0 c.requires.known.1) in
+    let wide = ap length c.before_step-before.ensures ∙ before_length c.args.listed (vector_at c.args.values.now.before c.args.thing).bits c.known_signal-after.result.bits (old ∙ sym new) ∙ old in
+    found_wide d fits.machines ps fits.listed k x c.as_slice-machines.result.now c.as_slice-machines.ensures.value within c.index-machines-number.is (length c.before_step-before.result.bits) (wide ∙ ap (λ s. (signal_at d s).width) (sym signal))
 
 pub mark_machine-requires-clause-after : goal.mark_machine-requires-clause-after
 mark_machine-requires-clause-after c =
@@ -98,14 +108,16 @@ loop-number-preserved c = (
       let first = c.args.marks.now.verdicts in
       let middle = c.loop-number.marks.verdicts in
       let after = c.mark_machine.new.marks.verdicts in
-      let old : c.before-before.result.bits ≡ known_bits st.design st.start.kept s = ap (λ q. q.bits) c.before-before.ensures ∙ moving.values.before s (subst (λ (e : Design). s < length e.signals) same inside) moving.moves in
       let new : c.known_signal-after.result.bits ≡ known_bits st.design (all_run st).kept s = c.known_signal-after.ensures st.design (all_run st).kept moving.values.knows in
+      let old : c.before_step-before.result.bits ≡ known_bits st.design (before_of st) s =
+      c.before_step-before.ensures ∙ ap₂ (bits_before c.args.listed) (moving.values.before s (subst (λ (e : Design). s < length e.signals) same inside) moving.moves) new ∙ before_bits st s c.args.listed moving.kind in
       let one =
-      subst (λ (y : Machine). MarksMachine ps k y st.time (known_bits st.design st.start.kept y.signal) (known_bits st.design (all_run st).kept y.signal) middle after) at
-      (subst (λ z. MarksMachine ps k x st.time (known_bits st.design st.start.kept z) (known_bits st.design (all_run st).kept z) middle after) (sym signal)
-      (subst (λ t. MarksMachine ps k x t (known_bits st.design st.start.kept s) (known_bits st.design (all_run st).kept s) middle after) (sym moving.time)
-      (subst (λ bs. MarksMachine ps k x c.args.time bs (known_bits st.design (all_run st).kept s) middle after) old
-      (subst (λ bs. MarksMachine ps k x c.args.time c.before-before.result.bits bs middle after) new c.mark_machine.ensures.machine)))) in
+      subst (λ (y : Machine). MarksMachine st.listed ps k y st.time (known_bits st.design (before_of st) y.signal) (known_bits st.design (all_run st).kept y.signal) middle after) at
+      (subst (λ z. MarksMachine st.listed ps k x st.time (known_bits st.design (before_of st) z) (known_bits st.design (all_run st).kept z) middle after) (sym signal)
+      (subst (λ t. MarksMachine st.listed ps k x t (known_bits st.design (before_of st) s) (known_bits st.design (all_run st).kept s) middle after) (sym moving.time)
+      (subst (λ bs. MarksMachine st.listed ps k x c.args.time bs (known_bits st.design (all_run st).kept s) middle after) old
+      (subst (λ bs. MarksMachine st.listed ps k x c.args.time c.before_step-before.result.bits bs middle after) new
+      (subst (λ b. MarksMachine b ps k x c.args.time c.before_step-before.result.bits c.known_signal-after.result.bits middle after) (sym moving.kind) c.mark_machine.ensures.machine))))) in
       subst (λ ks. MarksNumbers st ps ks s first after) (sym (take_more ns i 0 l))
       (one_number st fits.machines ps listed k s has.1 _ first middle after (c.loop-number.invariant.1 st moving) one),
 )

@@ -8,4 +8,4 @@ use Rattle.step_machines.proofs.machines.mark_thing.Given as goal
 -- the machines so far are marked
 abbrev pub invariant-loop-number : goal.invariant-loop-number
 invariant-loop-number l =
-    AreMarksOf l.points l.marks × ((st : Closing) → IsMoving st l.thing l.time l.store l.values → MarksNumbers st l.points (take l.number-index l.numbers) l.thing l.fn.marks.verdicts l.marks.verdicts)
+    AreMarksOf l.points l.marks × ((st : Closing) → IsMoving st l.thing l.time l.listed l.store l.values → MarksNumbers st l.points (take l.number-index l.numbers) l.thing l.fn.marks.verdicts l.marks.verdicts)

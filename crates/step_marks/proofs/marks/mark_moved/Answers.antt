@@ -21,7 +21,7 @@ loop-thing-preserved c =
       λ ps m. c.mark_thing.ensures.points ps (c.loop-thing.invariant.1 ps m),
       λ st ps over.
           let before = c.loop-thing.invariant.2 st ps over in
-          let one = one_over st ps moves c.args.time i thing c.args.store.now c.args.values.now c.args.seen.now c.loop-thing.seen c.args.marks.now c.loop-thing.marks l e over before.1 in
+          let one = one_over st ps moves c.args.time i thing c.args.on_list c.args.store.now c.args.values.now c.args.seen.now c.loop-thing.seen c.args.marks.now c.loop-thing.marks l e over before.1 in
           (more_marked st ps moves i thing c.args.marks.now.verdicts c.loop-thing.marks.verdicts c.mark_thing.new.marks.verdicts l e before.0 (c.mark_thing.ensures.toggles st ps one), c.mark_thing.ensures.seen st ps one),
     )
 

@@ -11,4 +11,4 @@ abbrev pub invariant-loop-thing : goal.invariant-loop-thing
 invariant-loop-thing l =
     (length l.seen ≡ length l.fn.seen)
     × ((ps : Points) → AreMarksOf ps l.fn.marks → AreMarksOf ps l.marks)
-    × ((st : Closing) (ps : Points) → IsOver st ps l.moves l.time l.store l.values l.fn.seen l.fn.marks → MarksInTurn st ps (take l.thing-index l.moves) l.fn.marks.verdicts l.marks.verdicts × IsSeenAfter st ps l.seen l.marks)
+    × ((st : Closing) (ps : Points) → IsOver st ps l.moves l.time l.on_list l.store l.values l.fn.seen l.fn.marks → MarksInTurn st ps (take l.thing-index l.moves) l.fn.marks.verdicts l.marks.verdicts × IsSeenAfter st ps l.seen l.marks)

@@ -24,7 +24,7 @@ returns-clause-followed c =
     record {
       of = record {
         ready = c.in_ok-replay.ensures.ready;
-        bindable = c.in_ok-binding.ensures.bindable;
+        there = c.in_ok-binding.ensures.instance;
         design_is = c.in_ok-replay.ensures.design;
         habit_is = ap habit_of c.in_ok-replay.ensures.habit;
         points_are = c.in_ok-replay.ensures.points;

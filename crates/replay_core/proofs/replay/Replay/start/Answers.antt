@@ -9,14 +9,15 @@ use Rattle.replay_core.specs.Fits.{FitsParts, FitsReplay, HaveValues, IsUntouche
 use Rattle.replay_core.specs.Followed.{HasFollowed}
 use Rattle.replay_core.specs.Made.{HasFollows, IsDumpFor, made_with, parts_with, subject_of}
 use Rattle.replay_core.specs.Parts.{given_of, made_of}
-use Rattle.code_values.specs.Values.{lacks_value}
+use Rattle.code_values.specs.Values.{IsFirstMissing, lacks_value}
 use Rattle.dump_check.specs.declared.order.Difference.{Difference}
 use Rattle.replay_core.specs.declared.fault.Phase.TheVariants.{Refused}
-use Rattle.replay_core.specs.declared.fault.ReplayFault.TheVariants.{NoBaseline}
+use Rattle.replay_core.specs.declared.fault.ReplayFault.TheVariants.{Contradiction, NoBaseline}
 use Rattle.replay_core.specs.declared.replay.Replay.{Replay}
 use Rattle.replay_core.specs.declared.room.ReplayRoom.{ReplayRoom}
 use Rattle.replay_core.specs.declared.tables.ReplayTables.{ReplayTables}
 use Rattle.replay_core.proofs.Ends.{all_valued, if_err, is_new, named_fault, none_at, on_ok, step_ready}
+use Rattle.replay_core.proofs.Missing.{no_contradiction, not_done, not_given, of_fault, refused_ready, same_signal}
 use Rattle.replay_core.proofs.replay.Replay.start.Goals as goal
 
 -- a contradiction is no signal without a value
@@ -99,4 +100,32 @@ returns g c =
       again = λ fault refused. absurd (c.in_default.not-Refused fault refused);
       named = if_err c.end.result c.end.ensures.err (λ fault is. named_fault found is.0 fault time (length d.signals) run.ensures.named is.1 is.2);
       steps = omega (arith, steps, size);
+    }
+
+pub returns-in-Some : goal.returns-in-Some
+returns-in-Some g c =
+    let x = c.args.self.now in
+    let d = design_view x.design.now in
+    let codes = x.tables.value.step.codes.items in
+    let last = x.state.values.last in
+    let ready = c.requires.ready in
+    let s = c.in-Some.signal in
+    let e = c.refuse.ensures.phase in
+    let r = c.refuse.ensures.result in
+    let at : IsFirstMissing last c.as_slice-codes.result.now s = subst (λ o. IfSome o (λ n. IsFirstMissing last c.as_slice-codes.result.now n)) c.in-Some.is c.first_missing.ensures.some in
+    let found : IsFirstMissing last codes s = subst (λ (t : ReplayTables). IsFirstMissing last t.step.codes.items s) c.deref.ensures (subst (λ cs. IsFirstMissing last cs s) c.as_slice-codes.ensures.value at) in
+    let named = subst (λ n. s < n) ready.parts.tables.codes found.listed in
+    record {
+      ready = subst (λ (y : Replay). FitsReplay (design_view y.design.now) y.state.notes.points.now y.tables.value y.room.value y.state y.phase) (sym e) (refused_ready d x.state.notes.points.now x.tables.value x.room.value x.state x.phase (NoBaseline s) named ready);
+      made = ap made_of e;
+      values = ap given_of e;
+      started = not_done _ c.refuse.result (NoBaseline s) r;
+      followed = not_done _ c.refuse.result (NoBaseline s) r;
+      refused = of_fault _ c.refuse.result (NoBaseline s) r (ap (λ (y : Replay). y.phase) e);
+      missing = λ n new is. subst (λ k. IsFirstMissing last codes k) (same_signal c.refuse.result s n r is) found;
+      contradiction = of_fault _ c.refuse.result (NoBaseline s) r (λ dump new of first shown given. not_given d codes last (dump.values c.args.time) s found.missing given);
+      valued = λ n t dumped computed new is. absurd (no_contradiction c.refuse.result s (Contradiction n t dumped computed) refl r is);
+      again = λ fault refused. absurd (c.in_default.not-Refused fault refused);
+      named = of_fault _ c.refuse.result (NoBaseline s) r named;
+      steps = omega arith;
     }

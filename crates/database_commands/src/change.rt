@@ -1,0 +1,8 @@
+/// What a command does with points.
+#[derive(Clone, Copy, Debug, PartialEq, Eq)]
+pub enum Change {
+    /// It takes them out of the totals of a report.
+    Exclude,
+    /// It takes them back into the totals.
+    Restore,
+}

@@ -1,0 +1,5 @@
+pub mod Matched
+pub mod AddressOrder
+pub mod AddressFields
+pub mod KeyLaws
+pub mod Searching
