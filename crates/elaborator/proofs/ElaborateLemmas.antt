@@ -1,5 +1,6 @@
 -- Two walks from the top: the first finds what is wrong, the second builds the design where nothing is.
-use Rattle.std.proofs.Common.{◌≡◌, ◌⊎◌, ℕ, false, List, [], ◌∷◌, Option, None, Some, Ok, refl, sym, ap, ◌∙◌, subst, inl, inr, length, arith}
+use Rattle.std.proofs.Common.{◌≡◌, ◌⊎◌, ℕ, true, false, List, [], ◌∷◌, Option, None, Some, Ok, refl, sym, ap, ◌∙◌, subst, inl, inr, length, arith}
+use Rattle.std.specs.Prelude.{is_some}
 use Rattle.std.proofs.lemmas.Bool.{false≢true, cases_Bool}
 use Rattle.design_model.specs.View.{design_view}
 use Rattle.design_model.specs.declared.design.Design.{Design}
@@ -32,7 +33,7 @@ stands_nothing top =
     record {
       met = refl;
       told = λ ended. absurd (false≢true ended);
-      numbers = λ open'. record { signals = refl; processes = refl; memories = refl; words = omega arith };
+      numbers = λ open'. record { signals = refl; processes = refl; instances = refl; memories = refl; words = omega arith };
     }
 
 -- faults of modules that are told first
@@ -113,16 +114,25 @@ module _ (ms : List Module) (top : List ℕ) where
       let none_twice : two_modules [] ms ≡ [] = no_faults (two_modules [] ms) (all_clean nothing_found (met_faults (two_modules [] ms)) first).1 in
       subst (λ fs. IsClean (after_all (after_faults nothing_found fs) (elaborated ms top).met)) none_twice all
 
-  -- where nothing is wrong the second walk builds the design
-  pub built_is : (base : ℕ) (t : Tally) (empty d : Design) (later : Walk) → t ≡ nothing_found → design_view empty ≡ (start top).design → Walks base (record { tally = t; memories = 0; draft = Some empty }) later →
-      IsClean (after_all nothing_found (elaborated_from base ms top named).met) → later.draft ≡ Some d → design_view d ≡ (elaborated_from base ms top named).design
-  built_is base t empty d later new is walks clean draft =
-      let begun : IsAt nothing_found base base (record { tally = t; memories = 0; draft = Some empty }) (start top) =
+  -- the second walk begins with a design without anything
+  begun : (base : ℕ) (t : Tally) (empty : Design) → t ≡ nothing_found → design_view empty ≡ (start top).design → IsAt nothing_found base base (record { tally = t; memories = 0; draft = Some empty }) (start top)
+  begun base t empty new is =
       record {
         stands = subst (λ u. StandsFor nothing_found u 0 (start top)) (sym new) (stands_nothing top);
         built = λ other building. let e : Some empty ≡ Some other = building.draft in let same : empty ≡ other = cc in sym (ap design_view same) ∙ is;
-      } in
-      let at : IsAt nothing_found base base later (elaborated_from base ms top named) = subst (IsAt nothing_found base base later) (walked_is base ms top named) (walks nothing_found base (start top) begun).0 in
+      }
+
+  -- and has one in the end
+  pub has_design : (base : ℕ) (t : Tally) (empty : Design) (later : Walk) → t ≡ nothing_found → design_view empty ≡ (start top).design → Walks base (record { tally = t; memories = 0; draft = Some empty }) later → later.draft ≡ None → ⊥
+  has_design base t empty later new is walks none =
+      let drafted : is_some later.draft ≡ true = (walks nothing_found base (start top) (begun base t empty new is)).1.drafted in
+      false≢true (sym (ap is_some none) ∙ drafted)
+
+  -- where nothing is wrong it is the design that is built
+  pub built_is : (base : ℕ) (t : Tally) (empty d : Design) (later : Walk) → t ≡ nothing_found → design_view empty ≡ (start top).design → Walks base (record { tally = t; memories = 0; draft = Some empty }) later →
+      IsClean (after_all nothing_found (elaborated_from base ms top named).met) → later.draft ≡ Some d → design_view d ≡ (elaborated_from base ms top named).design
+  built_is base t empty d later new is walks clean draft =
+      let at : IsAt nothing_found base base later (elaborated_from base ms top named) = subst (IsAt nothing_found base base later) (walked_is base ms top named) (walks nothing_found base (start top) (begun base t empty new is)).0 in
       at.built d (record { same = refl; draft = draft; clean = subst IsClean (sym at.stands.met) clean })
 
   -- no fault, and the design

@@ -1,5 +1,6 @@
 -- An instance that is opened is entered, unless a limit is passed with it.
 use Rattle.std.proofs.Common.{◌≡◌, ◌+◌, ◌≤◌, Bool, true, false, if◌then◌else◌, filter, Some, refl, sym, ap, ◌∙◌, subst, length, arith}
+use Rattle.std.specs.Prelude.{is_some}
 use Rattle.std.proofs.lemmas.Bool.{false≢true}
 use Rattle.design_model.specs.View.{design_view}
 use Rattle.design_model.specs.declared.design.Design.{Design}
@@ -22,13 +23,15 @@ use Rattle.elaborator.specs.declared.walk.Walk.{Walk}
 use Rattle.elaborator.proofs.StepLemmas.{was_clean}
 
 -- a limit is passed
-pub passed : (w later : Walk) (i : Instantiation) → later.tally ≡ after_all w.tally (opening_met i) → later.tally.ended ≡ true → IsPassed w later i
-passed w later i met ended =
+pub passed : (w later : Walk) (i : Instantiation) → later.tally ≡ after_all w.tally (opening_met i) → later.tally.ended ≡ true → is_some later.draft ≡ is_some w.draft → IsPassed w later i
+passed w later i met ended drafted =
     record {
       opens =
           record {
             met = met;
             memories = λ open'. absurd (false≢true (sym open' ∙ ended));
+            instance = λ open'. absurd (false≢true (sym open' ∙ ended));
+            drafted = drafted;
             draft = λ d some clean. absurd (false≢true (sym clean.open' ∙ ended));
             line = refl;
             node = refl;
@@ -39,11 +42,12 @@ passed w later i met ended =
 -- none is passed
 pub entered_with : (w later : Walk) (i : Instantiation) (e : Entered) → later.tally ≡ after_all w.tally (opening_met i) → later.tally.ended ≡ false →
     later.memories ≡ w.memories + length (filter is_memory (declared i.overrides i.of_module)) →
-    ((d : Design) → later.draft ≡ Some d → IsClean later.tally → (o : Design) × (w.draft ≡ Some o) × (design_view d ≡ opened_design i (design_view o)) × (e.numbers.instance ≡ length (design_view o).instances)) →
+    e.numbers.instance ≡ w.tally.counts.instances → is_some later.draft ≡ is_some w.draft →
+    ((d : Design) → later.draft ≡ Some d → IsClean later.tally → (o : Design) × (w.draft ≡ Some o) × (w.tally.counts.instances ≡ length (design_view o).instances → design_view d ≡ opened_design i (design_view o))) →
     e.numbers.line ≡ 1 → e.numbers.node ≡ 1 → e.declared ≡ declared i.overrides i.of_module → binding_of e.scope ≡ scope_of i w.tally.counts.signals w.memories → later.memories ≤ later.tally.counts.words → IsEntered w later i e
-entered_with w later i e met still memories draft line node names scope few =
+entered_with w later i e met still memories instance drafted draft line node names scope few =
     record {
-      opens = record { met = met; memories = λ open'. memories; draft = draft; line = line; node = node };
+      opens = record { met = met; memories = λ open'. memories; instance = λ open'. instance; drafted = drafted; draft = draft; line = line; node = node };
       before = was_open w.tally (opening_met i) (sym (ap (λ t. t.ended) met) ∙ still);
       still = still;
       declared = names;

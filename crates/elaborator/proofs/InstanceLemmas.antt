@@ -14,7 +14,7 @@ use Rattle.elab_scope.specs.Tally.{Tally}
 use Rattle.elaborator.specs.Walk.{GoesBy, IsAmong, IsAt, IsClean, Opens, WalksBy, around_here, items_lines, items_nodes}
 use Rattle.elaborator.specs.declared.walk.Numbers.{Numbers}
 use Rattle.elaborator.specs.declared.walk.Walk.{Walk}
-use Rattle.elaborator.proofs.StepLemmas.{ended_walks, opened_among, opened_ends, scope_numbers, walks_go, was_clean}
+use Rattle.elaborator.proofs.StepLemmas.{ended_walks, opened_among, opened_ends, remains_twice, scope_numbers, walks_go, was_clean}
 
 -- an instance whose faults are told and which is walked, where its scope is found, and then its ports are joined
 pub replaced_goes : {base : ℕ} {w told below later : Walk} {numbers : Numbers} (ms : List Module) (depth : ℕ) (given : Instantiation) (g inside : Scope) (p : Place) (i : Instantiation) (js : List JoinedPort) (fs : List Fault) →
@@ -31,7 +31,7 @@ replaced_goes {base = base} {later = later} {numbers = numbers} ms depth given g
     let there : inside ≡ (context b i met).scope = found before b met first.0.at in
     let end = subst (λ x. IsAmong before base b later numbers (join_ports (around_here b given n g) p x js (instance b ms depth i met)) n (l + 0 + 0 + 0) (k + 0 + 0 + 0)) there third.0 in (
       record { at = end.at; numbered = λ d building. let is = end.numbered d building in (is.0, omega (arith, is.1), omega (arith, is.2)) },
-      λ d some clean. let c = third.1 d some clean in let o = second.1 c.0 c.1 c.2 in first.1 o.0 o.1 o.2,
+      remains_twice first.1 (remains_twice second.1 third.1),
     )
 
 -- the same where a limit is passed on the way
@@ -43,10 +43,10 @@ replaced_ends {base = base} {below = below} {numbers = numbers} ms depth given g
     let first = walks_go {numbers = numbers} faults before b st n l k among in
     let met : Sofar = meet (met_faults fs) st in
     let second = child before b met first.0.at in
-    let third = ended_walks {base = base} {w = below} {later = below} (λ b st'. join_ports (around_here b given n g) p (context b i met).scope js st') refl ended
+    let third = ended_walks {base = base} {w = below} {later = below} (λ b st'. join_ports (around_here b given n g) p (context b i met).scope js st') refl refl ended
     (λ b st'. join_ports_continues (around_here b given n g) p (context b i met).scope js st') before b (instance b ms depth i met) second.0 in
     let never : IsClean below.tally → ⊥ = λ c. false≢true (sym c.open' ∙ ended) in
-    (record { at = third.0; numbered = λ d building. absurd (never building.clean) }, λ d some clean. absurd (never clean))
+    (record { at = third.0; numbered = λ d building. absurd (never building.clean) }, remains_twice first.1 second.1)
 
 -- an instance that is opened, and whose items are walked
 pub instance_walks : {base : ℕ} {w open' later : Walk} {numbers others : Numbers} (ms : List Module) (depth : ℕ) (i : Instantiation) (g : Scope) →
@@ -59,7 +59,7 @@ instance_walks {base = base} {w = w} {open' = open'} {later = later} ms depth i 
     let end = goes before b (opened i st) (length st.design.instances) 1 1 start in
     let scope : g ≡ (context b i st).scope = here ∙ scope_numbers i at was in (
       subst (λ x. IsAt before base b later (items (instance b ms depth) b ms (around_here b i (length st.design.instances) x) i.of_module.items 1 1 (opened i st))) scope end.0.at,
-      λ d some clean. let c = end.1 d some clean in let o = opens.draft c.0 c.1 c.2 in (o.0, o.1, (was_clean w open' (opening_met i) opens.met c.2).0),
+      remains_twice (record { drafted = opens.drafted; was = λ d some clean. let o = opens.draft d some clean in (o.0, o.1, (was_clean w open' (opening_met i) opens.met clean).0) }) end.1,
     )
 
 -- an instance with which a limit is passed when it is opened

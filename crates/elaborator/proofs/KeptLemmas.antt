@@ -1,7 +1,7 @@
 -- What a walk goes by says what it keeps to, and that nothing was told before where nothing is told later.
 use Rattle.std.proofs.Common.{◌≡◌, ℕ, ◌+◌, [], replicate, refl, sym, subst, arith}
 use Rattle.std.proofs.lemmas.List.{length-replicate}
-use Rattle.design_model.specs.Design.{no_memory, no_process, no_signal}
+use Rattle.design_model.specs.Design.{no_instance, no_memory, no_process, no_signal}
 use Rattle.flat_design.specs.Instances.{Sofar}
 use Rattle.elaborator.specs.Kept.{IsKept}
 use Rattle.elaborator.specs.Walk.{GoesBy, IsAmong, IsAt, IsClean, WalksBy}
@@ -9,14 +9,14 @@ use Rattle.elaborator.specs.declared.walk.Numbers.{Numbers}
 use Rattle.elaborator.specs.declared.walk.Walk.{Walk}
 use Rattle.elaborator.proofs.WalkLemmas.{all_clean}
 
--- a part of a flat design with as many signals, memories and processes as were counted
+-- a part of a flat design with as many instances, signals, memories and processes as were counted
 some_sofar : Walk → Sofar
 some_sofar w =
     record {
       design =
           record {
             top = [];
-            instances = [];
+            instances = replicate w.tally.counts.instances no_instance;
             signals = replicate w.tally.counts.signals no_signal;
             memories = replicate w.memories no_memory;
             processes = replicate w.tally.counts.processes no_process;
@@ -39,6 +39,7 @@ kept_at base w kept =
                 record {
                   signals = sym (length-replicate w.tally.counts.signals no_signal);
                   processes = sym (length-replicate w.tally.counts.processes no_process);
+                  instances = sym (length-replicate w.tally.counts.instances no_instance);
                   memories = sym (length-replicate w.memories no_memory);
                   words = kept.few open';
                 };

@@ -1,6 +1,6 @@
 -- A walk goes by a process, whose number alone says what is met with it.
 use Rattle.std.proofs.Common.{◌≡◌, ℕ, ◌+◌, List, Some, Result, Ok, Err, refl, ap, ◌∙◌, subst, length}
-use Rattle.std.specs.Prelude.{OnOk}
+use Rattle.std.specs.Prelude.{OnOk, is_some}
 use Rattle.cov_host.specs.declared.place.Place.{Place}
 use Rattle.design_model.specs.View.{design_view, process_view}
 use Rattle.design_model.specs.declared.design.Design.{Design}
@@ -53,7 +53,7 @@ pub passes_process : {base : ℕ} {w : Walk} {numbers : Numbers} (t : Tally) (co
     GoesBy base w numbers (record w { tally = t }) numbers (λ b i l n st. add_process (made b i (length st.design.processes) l n) st) lines nodes
 passes_process {base = base} {w = w} {numbers = numbers} t counts lines nodes made is counted met none_built =
     let added : Adds w (record w { tally = t }) (made 0 0 w.tally.counts.processes 0 0).met (made base numbers.instance 0 numbers.line numbers.node).process =
-    record { met = met ∙ ap (λ c. after_all w.tally (made 0 0 c.processes 0 0).met) counted; memories = refl; draft = λ d some clean. absurd (none_built d some clean) } in
+    record { met = met ∙ ap (λ c. after_all w.tally (made 0 0 c.processes 0 0).met) counted; memories = refl; drafted = refl; draft = λ d some clean. absurd (none_built d some clean) } in
     process_goes lines nodes made is.met is.process is.adds added (λ d some clean. absurd (none_built d some clean))
 
 -- a process is met and added to the design
@@ -61,16 +61,17 @@ pub adds_process : {A E : Type 0} (r : Result A E) (base : ℕ) (w later : Walk)
     t ≡ after_all w.tally (made 0 0 counts.processes 0 0).met →
     process_view process ≡ (made base numbers.instance counts.processes numbers.line numbers.node).process →
     (others.instance ≡ numbers.instance) × (others.line ≡ numbers.line + lines) × (others.node ≡ numbers.node + nodes) →
-    OnOk r (later.tally ≡ t) → OnOk r (later.memories ≡ w.memories) →
+    OnOk r (later.tally ≡ t) → OnOk r (later.memories ≡ w.memories) → OnOk r (is_some later.draft ≡ is_some w.draft) →
     OnOk r ((d : Design) → later.draft ≡ Some d → (o : Design) × (w.draft ≡ Some o) × (design_view d ≡ with_process (process_view process) (design_view o))) →
     OnOk r (GoesBy base w numbers later others (λ b i l n st. add_process (made b i (length st.design.processes) l n) st) lines nodes)
-adds_process (Err e) base w later t numbers others counts lines nodes made process is counted met built numbered told kept draft = tt
-adds_process (Ok a) base w later t numbers others counts lines nodes made process is counted met built numbered told kept draft =
+adds_process (Err e) base w later t numbers others counts lines nodes made process is counted met built numbered told kept drafted draft = tt
+adds_process (Ok a) base w later t numbers others counts lines nodes made process is counted met built numbered told kept drafted draft =
     let view : process_view process ≡ (made base numbers.instance 0 numbers.line numbers.node).process = built ∙ is.process base numbers.instance counts.processes numbers.line numbers.node in
     let added : Adds w later (made 0 0 w.tally.counts.processes 0 0).met (made base numbers.instance 0 numbers.line numbers.node).process =
     record {
       met = told ∙ met ∙ ap (λ c. after_all w.tally (made 0 0 c.processes 0 0).met) counted;
       memories = kept;
+      drafted = drafted;
       draft = λ d some clean. let o = draft d some in (o.0, o.1, o.2 ∙ ap (λ p. with_process p (design_view o.0)) view);
     } in
     process_goes lines nodes made is.met is.process is.adds added (λ d some clean. numbered)

@@ -1,5 +1,6 @@
 -- A walk goes from step to step.
-use Rattle.std.proofs.Common.{◌≡◌, ℕ, ◌+◌, true, false, filter, List, Some, sym, ap, ◌∙◌, subst, length, arith}
+use Rattle.std.proofs.Common.{◌≡◌, ℕ, ◌+◌, true, false, filter, List, Some, refl, sym, ap, ◌∙◌, subst, length, arith}
+use Rattle.std.specs.Prelude.{is_some}
 use Rattle.std.proofs.lemmas.Bool.{false≢true}
 use Rattle.design_model.specs.View.{design_view}
 use Rattle.design_model.specs.declared.design.Design.{Design}
@@ -11,7 +12,7 @@ use Rattle.flat_laws.proofs.Continues.{Continues}
 use Rattle.flat_laws.proofs.Freedom.{IsFree}
 use Rattle.flat_laws.proofs.LawfulCounts.{AddsProcess, inner_faults}
 use Rattle.elab_scope.specs.Tally.{Tally, after_all}
-use Rattle.elaborator.specs.Walk.{Adds, GoesBy, IsAmong, IsAt, IsBuilding, IsClean, Opens, StandsFor, WalksBy, opened_design, with_process}
+use Rattle.elaborator.specs.Walk.{Adds, GoesBy, IsAmong, IsAt, IsBuilding, IsClean, Opens, Remains, StandsFor, WalksBy, opened_design, with_process}
 use Rattle.elaborator.specs.declared.walk.Numbers.{Numbers}
 use Rattle.elaborator.specs.declared.walk.Walk.{Walk}
 use Rattle.elaborator.proofs.WalkLemmas.{all_clean, stands_ended, stands_met, stands_opened, stands_process}
@@ -54,7 +55,7 @@ module _ {base : ℕ} {w later : Walk} {numbers others : Numbers} (lines nodes :
           let c = counted d building.draft building.clean in
           (c.0 ∙ is.0, c.1 ∙ ap (λ m. m + lines) is.1, c.2 ∙ ap (λ m. m + nodes) is.2);
     },
-    λ d some clean. let o = added.draft d some clean in (o.0, o.1, (was_clean w later (made 0 0 w.tally.counts.processes 0 0).met added.met clean).0),
+    record { drafted = added.drafted; was = λ d some clean. let o = added.draft d some clean in (o.0, o.1, (was_clean w later (made 0 0 w.tally.counts.processes 0 0).met added.met clean).0) },
   )
     where
       k : ℕ
@@ -68,10 +69,14 @@ module _ {base : ℕ} {w later : Walk} {numbers others : Numbers} (lines nodes :
           (subst (λ m. StandsFor before (after_all w.tally (made b i w.tally.counts.processes l n).met) m (add_process (made b i k l n) st)) (sym added.memories)
           (stands_process (λ j. made b i j l n) (λ j. adds b i j l n) among.at.stands))
 
+-- what remains from one moment to the next, and to the one after that
+pub remains_twice : {w next later : Walk} → Remains w next → Remains next later → Remains w later
+remains_twice one two = record { drafted = two.drafted ∙ one.drafted; was = λ d some clean. let o = two.was d some clean in one.was o.0 o.1 o.2 }
+
 -- a step that does nothing
 pub still_goes : {base : ℕ} (w : Walk) (numbers : Numbers) → GoesBy base w numbers w numbers (λ b i l n st. st) 0 0
 still_goes w numbers before b st i l n among =
-    (record { at = among.at; numbered = λ d building. let is = among.numbered d building in (is.0, omega (arith, is.1), omega (arith, is.2)) }, λ d some clean. (d, some, clean))
+    (record { at = among.at; numbered = λ d building. let is = among.numbered d building in (is.0, omega (arith, is.1), omega (arith, is.2)) }, record { drafted = refl; was = λ d some clean. (d, some, clean) })
 
 -- one step behind the other
 pub goes_twice : {base : ℕ} {w next later : Walk} {numbers between others : Numbers} {f g : ℕ → ℕ → ℕ → ℕ → Sofar → Sofar} (lines more_lines nodes more_nodes : ℕ) →
@@ -81,7 +86,7 @@ goes_twice {f = f} lines more_lines nodes more_nodes first second before b st i 
     let one = first before b st i l n among in
     let two = second before b (f b i l n st) i (l + lines) (n + nodes) one.0 in (
       record { at = two.0.at; numbered = λ d building. let is = two.0.numbered d building in (is.0, omega (arith, is.1), omega (arith, is.2)) },
-      λ d some clean. let o = two.1 d some clean in one.1 o.0 o.1 o.2,
+      remains_twice one.1 two.1,
     )
 
 -- faults that are told, where no design is built any more
@@ -92,18 +97,18 @@ faults_walk {w = w} {later = later} fs met memories draft before b st at =
         stands = subst (λ t. StandsFor before t later.memories (meet (met_faults fs) st)) (sym met) (subst (λ m. StandsFor before (after_all w.tally (met_faults fs)) m (meet (met_faults fs) st)) (sym memories) (stands_met (met_faults fs) (inner_faults fs) at.stands));
         built = λ d building. at.built d (record { same = building.same; draft = sym draft ∙ building.draft; clean = clean building.clean });
       },
-      λ d some c. (d, sym draft ∙ some, clean c),
+      record { drafted = ap is_some draft; was = λ d some c. (d, sym draft ∙ some, clean c) },
     )
 
 -- behind a limit that is passed
-pub ended_walks : {base : ℕ} {w later : Walk} (f : ℕ → Sofar → Sofar) → later.tally ≡ w.tally → w.tally.ended ≡ true → ((b : ℕ) (st : Sofar) → Continues st (f b st)) → WalksBy base w later f
-ended_walks {w = w} {later = later} f same ended continues before b st at =
+pub ended_walks : {base : ℕ} {w later : Walk} (f : ℕ → Sofar → Sofar) → later.tally ≡ w.tally → later.draft ≡ w.draft → w.tally.ended ≡ true → ((b : ℕ) (st : Sofar) → Continues st (f b st)) → WalksBy base w later f
+ended_walks {w = w} {later = later} f same draft ended continues before b st at =
     let never : IsClean later.tally → ⊥ = λ c. false≢true (sym c.open' ∙ ap (λ t. t.ended) same ∙ ended) in (
       record {
         stands = subst (λ t. StandsFor before t later.memories (f b st)) (sym same) (stands_ended at.stands ended (continues b st));
         built = λ d building. absurd (never building.clean);
       },
-      λ d some c. absurd (never c),
+      record { drafted = ap is_some draft; was = λ d some c. absurd (never c) },
     )
 
 -- a walk below an instance keeps the numbers in it
@@ -113,7 +118,7 @@ walks_go walks before b st i l n among =
       record {
         at = end.0;
         numbered = λ d building.
-            let o = end.1 d building.draft building.clean in
+            let o = end.1.was d building.draft building.clean in
             let is = among.numbered o.0 (record { same = building.same; draft = o.1; clean = o.2 }) in
             (is.0, omega (arith, is.1), omega (arith, is.2));
       },
@@ -125,7 +130,7 @@ pub walks_twice : {base : ℕ} {w next later : Walk} {f g : ℕ → Sofar → So
 walks_twice {f = f} first second before b st at =
     let one = first before b st at in
     let two = second before b (f b st) one.0 in
-    (two.0, λ d some c. let o = two.1 d some c in one.1 o.0 o.1 o.2)
+    (two.0, remains_twice one.1 two.1)
 
 -- an instance that is opened, where no limit is passed
 pub opened_among : {before : Tally} {base b : ℕ} {w later : Walk} {numbers : Numbers} {st : Sofar} (i : Instantiation) → Opens w later numbers i → later.tally.ended ≡ false → IsAt before base b w st →
@@ -135,16 +140,19 @@ opened_among {before = before} {base = base} {b = b} {w = w} {later = later} {nu
       at =
           record {
             stands = subst (λ t. StandsFor before t later.memories (opened i st)) (sym opens.met) (subst (λ m. StandsFor before (after_all w.tally (opening_met i)) m (opened i st)) (sym (opens.memories open')) (stands_opened i at.stands));
-            built = λ d building. (earlier d building).2 ∙ ap (opened_design i) (at.built (earlier d building).0 (was d building));
+            built = λ d building. (earlier d building).2 (numbered d building ∙ ap (λ x. length x.instances) (sym (at.built (earlier d building).0 (was d building)))) ∙ ap (opened_design i) (at.built (earlier d building).0 (was d building));
           };
-      numbered = λ d building. ((earlier d building).3 ∙ ap (λ x. length x.instances) (at.built (earlier d building).0 (was d building)), opens.line, opens.node);
+      numbered = λ d building. (opens.instance open' ∙ numbered d building, opens.line, opens.node);
     }
   where
-    earlier : (d : Design) → IsBuilding base b later d → (o : Design) × (w.draft ≡ Some o) × (design_view d ≡ opened_design i (design_view o)) × (numbers.instance ≡ length (design_view o).instances)
+    earlier : (d : Design) → IsBuilding base b later d → (o : Design) × (w.draft ≡ Some o) × (w.tally.counts.instances ≡ length (design_view o).instances → design_view d ≡ opened_design i (design_view o))
     earlier d building = opens.draft d building.draft building.clean
 
     was : (d : Design) → (building : IsBuilding base b later d) → IsBuilding base b w (earlier d building).0
     was d building = record { same = building.same; draft = (earlier d building).1; clean = (was_clean w later (opening_met i) opens.met building.clean).0 }
+
+    numbered : (d : Design) → IsBuilding base b later d → w.tally.counts.instances ≡ length st.design.instances
+    numbered d building = (at.stands.numbers (was d building).clean.open').instances
 
 -- where one is passed, whatever comes below
 pub opened_ends : {base : ℕ} {w later : Walk} {numbers : Numbers} (i : Instantiation) (f : ℕ → Sofar → Sofar) → Opens w later numbers i → later.tally.ended ≡ true → ((b : ℕ) (st : Sofar) → Continues (opened i st) (f b st)) → WalksBy base w later f
@@ -153,7 +161,7 @@ opened_ends {w = w} {later = later} i f opens ended continues before b st at =
     let here : StandsFor before later.tally (w.memories + length (filter is_memory (declared i.overrides i.of_module))) (opened i st) = subst (λ t. StandsFor before t (w.memories + length (filter is_memory (declared i.overrides i.of_module))) (opened i st)) (sym opens.met) there in
     let never : IsClean later.tally → ⊥ = λ c. false≢true (sym c.open' ∙ ended) in (
       record { stands = stands_ended here ended (continues b st); built = λ d building. absurd (never building.clean) },
-      λ d some c. absurd (never c),
+      record { drafted = opens.drafted; was = λ d some c. absurd (never c) },
     )
 
 -- the numbers of the signals and memories of an instance are those that its scope begins with

@@ -11,8 +11,8 @@ use Rattle.flat_design.specs.Instances.{Instantiation, Sofar, meet, add_process,
 use Rattle.flat_design.specs.Declarations.{Declaration}
 use Rattle.flat_design.specs.Processes.{Made}
 use Rattle.flat_laws.proofs.Continues.{Continues, continues_process}
-use Rattle.flat_laws.proofs.Freedom.{IsFree, is_fault, signal_count, process_count, word_count}
-use Rattle.flat_laws.proofs.LawfulCounts.{AddsProcess, is_inner, inner_faults, sum_nothing, sum_opening, signals_met, memories_met, others_met, no_signal, no_process, no_words, told_inner}
+use Rattle.flat_laws.proofs.Freedom.{IsFree, is_fault, signal_count, process_count, word_count, instance_count}
+use Rattle.flat_laws.proofs.LawfulCounts.{AddsProcess, is_inner, inner_faults, sum_nothing, sum_opening, signals_met, memories_met, others_met, no_signal, no_process, no_words, no_instance, told_inner}
 use Rattle.flat_design.specs.declared.counts.Counts.{Counts}
 use Rattle.flat_design.specs.declared.fault.DesignLimit.TheVariants.{Signals, Processes, Words, Instances, Statements}
 use Rattle.elab_scope.specs.Tally.{Tally, after, after_all, sooner, with_counts, with_met}
@@ -24,6 +24,7 @@ pub record AreCounted (t later : Tally) (ms : List Met) : Type 0 where
   pub signals : later.counts.signals ≡ t.counts.signals + sum_by signal_count ms
   pub processes : later.counts.processes ≡ t.counts.processes + sum_by process_count ms
   pub words : later.counts.words ≡ t.counts.words + sum_by word_count ms
+  pub instances : later.counts.instances ≡ t.counts.instances + sum_by instance_count ms
 
 -- a count that passes no limit is made
 counts_open : (passed : Bool) (f : Fault) (c : Counts) (t : Tally) → is_limit f ≡ true → (with_counts passed f c t).ended ≡ false → with_counts passed f c t ≡ record t { counts = c }
@@ -32,22 +33,22 @@ counts_open false f c t limit open' = refl
 
 -- of one thing
 one_counted : (t : Tally) (m : Met) → (with_met m t).ended ≡ false → AreCounted t (with_met m t) (m ∷ [])
-one_counted t (met_fault f) open' = record { signals = omega arith; processes = omega arith; words = omega arith }
-one_counted t (met_writing w) open' = record { signals = omega arith; processes = omega arith; words = omega arith }
+one_counted t (met_fault f) open' = record { signals = omega arith; processes = omega arith; words = omega arith; instances = omega arith }
+one_counted t (met_writing w) open' = record { signals = omega arith; processes = omega arith; words = omega arith; instances = omega arith }
 one_counted t (met_signal p) open' =
-    rw (counts_open (t.counts.signals == 65536) (limit_fault Signals p) _ t refl open') (record { signals = omega arith; processes = omega arith; words = omega arith })
+    rw (counts_open (t.counts.signals == 65536) (limit_fault Signals p) _ t refl open') (record { signals = omega arith; processes = omega arith; words = omega arith; instances = omega arith })
 one_counted t (met_process p) open' =
-    rw (counts_open (t.counts.processes == 65536) (limit_fault Processes p) _ t refl open') (record { signals = omega arith; processes = omega arith; words = omega arith })
+    rw (counts_open (t.counts.processes == 65536) (limit_fault Processes p) _ t refl open') (record { signals = omega arith; processes = omega arith; words = omega arith; instances = omega arith })
 one_counted t (met_words p n) open' =
-    rw (counts_open (nat_lt 262144 (t.counts.words + n)) (limit_fault Words p) _ t refl open') (record { signals = omega arith; processes = omega arith; words = omega arith })
+    rw (counts_open (nat_lt 262144 (t.counts.words + n)) (limit_fault Words p) _ t refl open') (record { signals = omega arith; processes = omega arith; words = omega arith; instances = omega arith })
 one_counted t (met_instance p) open' =
-    rw (counts_open (t.counts.instances == 65536) (limit_fault Instances p) _ t refl open') (record { signals = omega arith; processes = omega arith; words = omega arith })
+    rw (counts_open (t.counts.instances == 65536) (limit_fault Instances p) _ t refl open') (record { signals = omega arith; processes = omega arith; words = omega arith; instances = omega arith })
 one_counted t (met_statement p) open' =
-    rw (counts_open (t.counts.statements == 1048576) (limit_fault Statements p) _ t refl open') (record { signals = omega arith; processes = omega arith; words = omega arith })
+    rw (counts_open (t.counts.statements == 1048576) (limit_fault Statements p) _ t refl open') (record { signals = omega arith; processes = omega arith; words = omega arith; instances = omega arith })
 
 -- of all that is met
 pub all_counted : (t : Tally) (ms : List Met) → (after_all t ms).ended ≡ false → AreCounted t (after_all t ms) ms
-all_counted t [] open' = record { signals = omega arith; processes = omega arith; words = omega arith }
+all_counted t [] open' = record { signals = omega arith; processes = omega arith; words = omega arith; instances = omega arith }
 all_counted t (m ∷ ms) open' =
     let next : (after t m).ended ≡ false = was_open (after t m) ms open' in
     let before : t.ended ≡ false = was_open t (m ∷ []) next in
@@ -58,6 +59,7 @@ all_counted t (m ∷ ms) open' =
       signals = omega (arith, one.signals, others.signals, sum_by-cons signal_count m ms, sum_by-cons signal_count m []);
       processes = omega (arith, one.processes, others.processes, sum_by-cons process_count m ms, sum_by-cons process_count m []);
       words = omega (arith, one.words, others.words, sum_by-cons word_count m ms, sum_by-cons word_count m []);
+      instances = omega (arith, one.instances, others.instances, sum_by-cons instance_count m ms, sum_by-cons instance_count m []);
     }
 
 -- a limit that is passed is told
@@ -136,6 +138,7 @@ stands_met {before = before} {t = t} {st = st} ms inner stands =
           record {
             signals = omega (arith, had.signals, c.signals, sum_nothing signal_count is_inner no_signal ms inner);
             processes = omega (arith, had.processes, c.processes, sum_nothing process_count is_inner no_process ms inner);
+            instances = omega (arith, had.instances, c.instances, sum_nothing instance_count is_inner no_instance ms inner);
             memories = had.memories;
             words = omega (arith, had.words, c.words);
           };
@@ -156,6 +159,7 @@ stands_made {before = before} {t = t} {st = st} m adds stands =
           record {
             signals = omega (arith, had.signals, c.signals, adds.signals);
             processes = omega (arith, had.processes, c.processes, adds.processes, length-append st.design.processes (m.process ∷ []));
+            instances = omega (arith, had.instances, c.instances, adds.instances);
             memories = had.memories;
             words = omega (arith, had.words, c.words);
           };
@@ -178,6 +182,12 @@ memories_few n (d ∷ ds) = omega (arith, sum_by-cons (λ m. span m.first m.last
 opening_counts : (f : Met → ℕ) → ((m : Met) → is_inner m ≡ true → f m ≡ 0) → (i : Instantiation) → f (met_instance i.item) ≡ 0 → sum_by f (opening_met i) ≡ sum_by f (flat_map (declared_met i) (declared i.overrides i.of_module))
 opening_counts f h i none_of = omega (arith, sum_opening f (λ m told. h m (told_inner m told)) i, none_of)
 
+-- and one instance is counted
+opening_instance : (i : Instantiation) → sum_by instance_count (opening_met i) ≡ 1
+opening_instance i =
+    let one : instance_count (met_instance i.item) ≡ 1 = refl in
+    omega (arith, one, sum_opening instance_count (λ m told. no_instance m (told_inner m told)) i, others_met instance_count (λ m h. no_instance m (told_inner m h)) (λ p. refl) (λ p n. refl) i (declared i.overrides i.of_module))
+
 -- an instance that is opened, with its memories
 pub stands_opened : {before t : Tally} {n : ℕ} {st : Sofar} (i : Instantiation) → StandsFor before t n st →
     StandsFor before (after_all t (opening_met i)) (n + length (filter is_memory (declared i.overrides i.of_module))) (opened i st)
@@ -194,6 +204,7 @@ stands_opened {before = before} {t = t} {n = n} {st = st} i stands =
           record {
             signals = omega (arith, had.signals, c.signals, opening_counts signal_count no_signal i refl, signals_met i ds, length-append st.design.signals (map (signal_of number i.is_top) own), length-map own (signal_of number i.is_top));
             processes = omega (arith, had.processes, c.processes, opening_counts process_count no_process i refl, others_met process_count (λ m h. no_process m (told_inner m h)) (λ p. refl) (λ p n. refl) i ds);
+            instances = omega (arith, had.instances, c.instances, opening_instance i, length-append st.design.instances (record { path = i.path; «module» = i.of_module.name.name } ∷ []));
             memories = omega (arith, had.memories, length-append st.design.memories (map (memory_of number) (filter is_memory ds)), length-map (filter is_memory ds) (memory_of number));
             words = omega (arith, had.words, c.words, opening_counts word_count no_words i refl, memories_met number i ds, memories_few number (filter is_memory ds));
           };

@@ -1,5 +1,5 @@
 -- A walk over the instances of modules, and the part of the flat design that it has come to.
-use Rattle.std.specs.Prelude.{◌≡◌, ◌≤◌, ℕ, ◌+◌, true, false, List, [], ◌∷◌, ◌++◌, filter, length, None, Some}
+use Rattle.std.specs.Prelude.{◌≡◌, ◌≤◌, ℕ, ◌+◌, true, false, List, [], ◌∷◌, ◌++◌, filter, is_some, length, None, Some}
 use Rattle.design_model.specs.Design as model
 use Rattle.design_model.specs.Tree as t
 use Rattle.design_model.specs.View.{design_view}
@@ -17,6 +17,7 @@ use Rattle.elaborator.specs.declared.walk.Walk.{Walk}
 pub record HasNumbers (t : Tally) (n : ℕ) (d : model.Design) : Type 0 where
   pub signals : t.counts.signals ≡ length d.signals
   pub processes : t.counts.processes ≡ length d.processes
+  pub instances : t.counts.instances ≡ length d.instances
   pub memories : n ≡ length d.memories
   pub words : n ≤ t.counts.words  -- a memory has a word at least
 
@@ -51,9 +52,10 @@ pub record IsAmong (before : Tally) (base b : ℕ) (w : Walk) (numbers : Numbers
   pub at : IsAt before base b w st
   pub numbered : (d : Design) → IsBuilding base b w d → (numbers.instance ≡ i) × (numbers.line ≡ l) × (numbers.node ≡ n)
 
--- where the later walk builds a design and nothing was reported, so it was before
-abbrev pub Remains : Walk → Walk → Type 0
-Remains w later = (d : Design) → later.draft ≡ Some d → IsClean later.tally → (o : Design) × (w.draft ≡ Some o) × IsClean w.tally
+-- the later walk has a design where this one has one, and where nothing was reported later, nothing was before
+pub record Remains (w later : Walk) : Type 0 where
+  pub drafted : is_some later.draft ≡ is_some w.draft
+  pub was : (d : Design) → later.draft ≡ Some d → IsClean later.tally → (o : Design) × (w.draft ≡ Some o) × IsClean w.tally
 
 -- from one moment to the next the walk in an instance goes by this step, which takes this number of line points and counted nodes
 abbrev pub GoesBy : ℕ → Walk → Numbers → Walk → Numbers → (ℕ → ℕ → ℕ → ℕ → Sofar → Sofar) → ℕ → ℕ → Type 0
@@ -64,6 +66,7 @@ GoesBy base w numbers later others f lines nodes =
 pub record Adds (w later : Walk) (ms : List Met) (p : t.Process) : Type 0 where
   pub met : later.tally ≡ after_all w.tally ms
   pub memories : later.memories ≡ w.memories
+  pub drafted : is_some later.draft ≡ is_some w.draft
   pub draft : (d : Design) → later.draft ≡ Some d → IsClean later.tally → (o : Design) × (w.draft ≡ Some o) × (design_view d ≡ with_process p (design_view o))
 
 -- from one moment to the next the walk goes by this step
@@ -78,8 +81,10 @@ opened_design i d = (opened i (record { design = d; met = [] })).design
 pub record Opens (w later : Walk) (numbers : Numbers) (i : Instantiation) : Type 0 where
   pub met : later.tally ≡ after_all w.tally (opening_met i)
   pub memories : later.tally.ended ≡ false → later.memories ≡ w.memories + length (filter is_memory (declared i.overrides i.of_module))
+  pub instance : later.tally.ended ≡ false → numbers.instance ≡ w.tally.counts.instances
+  pub drafted : is_some later.draft ≡ is_some w.draft
   pub draft : (d : Design) → later.draft ≡ Some d → IsClean later.tally
-      → (o : Design) × (w.draft ≡ Some o) × (design_view d ≡ opened_design i (design_view o)) × (numbers.instance ≡ length (design_view o).instances)
+      → (o : Design) × (w.draft ≡ Some o) × (w.tally.counts.instances ≡ length (design_view o).instances → design_view d ≡ opened_design i (design_view o))
   pub line : numbers.line ≡ 1
   pub node : numbers.node ≡ 1
 

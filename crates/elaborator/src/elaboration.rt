@@ -97,7 +97,7 @@ fn build<'a>(
     let draft = walk.draft;
     match draft {
         Some(design) => Ok(design),
-        None => Err(NoMemory),
+        None => unreachable!(),
     }
 }
 

@@ -1,6 +1,6 @@
 //! An instance is entered: what is found in its declarations, its own parts in the design, and what its names mean.
 
-ghost use Rattle.std.specs.Prelude.{◌≡◌, ◌≤◌, MatchOption, Some, false, true, length, IfOk, OnOk};
+ghost use Rattle.std.specs.Prelude.{◌≡◌, ◌≤◌, MatchOption, Some, false, true, is_some, length, IfOk, OnOk};
 ghost use Rattle.design_model.specs.View.{design_view};
 ghost use Rattle.design_model.specs.declared.design.Design as the;
 ghost use Rattle.elab_instances.specs.Entering.{AreFew, IsInside, numbers_after};
@@ -28,18 +28,19 @@ pub(crate) struct Entered<'a> {
     pub(crate) numbers: Numbers,
 }
 
-/// Adds an opened instance to the design, if one is built. Its number, or 0.
-fn add_opened(alloc: Global, opened: &Opened, walk: &mut Walk) -> Result<u32, NoMemory>
+/// Adds an opened instance to the design, if one is built, in which this number is the next of an instance.
+fn add_opened(alloc: Global, opened: &Opened, number: u32, walk: &mut Walk) -> Result<(), NoMemory>
     ensures tally { OnOk result (walk.new.tally ≡ walk.old.tally) }
     ensures memories { OnOk result (walk.new.memories ≡ walk.old.memories) }
-    ensures draft { IfOk result (λ number. (d : the.Design) → walk.new.draft ≡ Some d → IsClean walk.old.tally → (o : the.Design) × (walk.old.draft ≡ Some o) × (design_view d ≡ opened_design (instantiation_view opened.now.given.now) (design_view o)) × (number ≡ length (design_view o).instances)) }
+    ensures drafted { OnOk result (is_some walk.new.draft ≡ is_some walk.old.draft) }
+    ensures draft { OnOk result ((d : the.Design) → walk.new.draft ≡ Some d → IsClean walk.old.tally → (o : the.Design) × (walk.old.draft ≡ Some o) × (number ≡ length (design_view o).instances → design_view d ≡ opened_design (instantiation_view opened.now.given.now) (design_view o))) }
 {
     if !walk.builds() {
-        return Ok(0);
+        return Ok(());
     }
     match &mut walk.draft {
-        Some(draft) => add_instance(alloc, opened, draft),
-        None => Ok(0),
+        Some(draft) => add_instance(alloc, opened, number, draft),
+        None => unreachable!(),
     }
 }
 
@@ -79,8 +80,9 @@ pub(crate) fn enter<'a>(
     requires few { walk.old.tally.ended ≡ false → walk.old.memories ≤ walk.old.tally.counts.words }
     ensures { IfOk result (λ found. MatchOption found (IsPassed walk.old walk.new (instantiation_view given.now)) (λ entered. IsEntered walk.old walk.new (instantiation_view given.now) entered)) }
 {
+    let counts = walk.tally.counts();
     let first = elab_instances::Numbers {
-        signal: walk.tally.counts().signals,
+        signal: counts.signals,
         memory: walk.memories,
     };
     let opened = boxed_opened(alloc, given, &mut walk.tally)?;
@@ -88,13 +90,13 @@ pub(crate) fn enter<'a>(
         return Ok(None);
     }
     let inside = boxed_inside(alloc, &opened, first)?;
-    let instance = add_opened(alloc, &opened, walk)?;
+    add_opened(alloc, &opened, counts.instances, walk)?;
     walk.memories = inside.next.memory;
     Ok(Some(Entered {
         declared: Box::into_inner(opened).into_declared(),
         scope: Box::into_inner(inside).into_scope(),
         numbers: Numbers {
-            instance,
+            instance: counts.instances,
             line: 1,
             node: 1,
         },

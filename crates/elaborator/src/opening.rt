@@ -10,16 +10,15 @@ use design_model::{Design, Instance};
 use elab_instances::{Opened, push_aliases, push_constants, push_memories, push_signals};
 use std::alloc::Global;
 
-/// Adds an opened instance with its own parts to a design. Its number.
+/// Adds an opened instance with its own parts to a design, in which this number is the next of an instance.
 pub(crate) fn add_instance(
     alloc: Global,
     opened: &Opened,
+    number: u32,
     draft: &mut Design,
-) -> Result<u32, NoMemory>
-    ensures number { IfOk result (λ number. number ≡ length draft.old.instances) }
-    ensures added { OnOk result (design_view draft.new ≡ opened_design (instantiation_view opened.now.given.now) (design_view draft.old)) }
+) -> Result<(), NoMemory>
+    ensures { OnOk result (number ≡ length draft.old.instances → design_view draft.new ≡ opened_design (instantiation_view opened.now.given.now) (design_view draft.old)) }
 {
-    let number = number_of(draft.instances.len())?;
     draft.instances.push(Instance {
         path: copy(alloc, &opened.given.path)?,
         module: copy(alloc, &opened.given.module.name.name)?,
@@ -28,17 +27,10 @@ pub(crate) fn add_instance(
     push_memories(alloc, opened, number, &mut draft.memories)?;
     push_constants(alloc, opened, number, &mut draft.constants)?;
     push_aliases(alloc, opened, number, &mut draft.aliases)?;
-    Ok(number)
+    Ok(())
 }
 
-/// The number of what follows `count` others.
-fn number_of(count: usize) -> Result<u32, NoMemory>
-    ensures { IfOk result (λ number. number ≡ count) }
-{
-    u32::try_from(count).map_err(|_| NoMemory)
-}
-
-/// A name of its own.
+/// A copy of a name.
 fn copy(alloc: Global, name: &Name) -> Result<Name, NoMemory>
     ensures { IfOk result (λ copy. copy ≡ name.now) }
 {

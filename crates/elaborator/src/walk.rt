@@ -1,6 +1,6 @@
 //! A walk over the instances of modules, and what it has come to.
 
-ghost use Rattle.std.specs.Prelude.{◌≡◌, Some, true, false, OnOk};
+ghost use Rattle.std.specs.Prelude.{◌≡◌, Some, true, false, is_some, OnOk};
 ghost use Rattle.design_model.specs.View.{design_view, process_view};
 ghost use Rattle.design_model.specs.declared.design.Design as the;
 ghost use Rattle.elaborator.specs.Walk.{IsClean, with_process};
@@ -42,6 +42,7 @@ impl<'a> Walk<'a> {
     pub(crate) fn add(&mut self, process: Process) -> Result<(), NoMemory>
         ensures tally { OnOk result (self.new.tally ≡ self.old.tally) }
         ensures memories { OnOk result (self.new.memories ≡ self.old.memories) }
+        ensures drafted { OnOk result (is_some self.new.draft ≡ is_some self.old.draft) }
         ensures draft { OnOk result ((d : the.Design) → self.new.draft ≡ Some d → (o : the.Design) × (self.old.draft ≡ Some o) × (design_view d ≡ with_process (process_view process) (design_view o))) }
     {
         match &mut self.draft {

@@ -87,7 +87,7 @@ fn join_lacking<'a, H: Host>(
         Err(JoinFault::NoMemory) => Err(SourceFault::NoMemory),
         Err(JoinFault::Refused(call)) => Err(SourceFault::Included {
             call,
-            path: Name::from_vec(path.as_bytes().to_vec(alloc)?),
+            path: Name::from_vec(path.into_bytes()),
         }),
         Err(JoinFault::Full { kind, detail }) => Err(full(kind, detail)),
     }

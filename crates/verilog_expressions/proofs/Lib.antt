@@ -4,6 +4,7 @@ pub mod Gives
 pub mod Grown
 pub mod LevelRules
 pub mod Levels
+pub mod Lowness
 pub mod Numbers
 pub mod Operators
 pub mod Others

@@ -1,5 +1,5 @@
 -- A token that was taken, and its kind.
-use Rattle.std.proofs.Common.{rules, arith, ◌≡◌, ℕ, true, false, List, [], ◌∷◌, Ok, Err, refl}
+use Rattle.std.proofs.Common.{rules, arith, ◌≡◌, ℕ, true, false, List, [], ◌∷◌, Ok, refl}
 use Rattle.verilog_lexer.specs.Tokens.{Lexeme}
 use Rattle.grammar_rules.specs.Rule.{next, member, take_one, refuse}
 use Rattle.verilog_grammar.specs.Kind.{next_kind, kind_of}

@@ -1,6 +1,6 @@
 //! Expressions.
 
-ghost use Rattle.std.specs.Prelude.{◌≡◌, nat_le, true, false, [], ◌∷◌, length, IfOk, IfErr};
+ghost use Rattle.std.specs.Prelude.{◌≡◌, ◌<◌, ◌^◌, nat_le, true, false, [], ◌∷◌, length, IfOk, IfErr};
 ghost use Rattle.grammar_rules.specs.Rule.{next, member, many, both, nest};
 ghost use Rattle.grammar_rules.specs.Grammar.{reads, phrase};
 ghost use Rattle.verilog_tree.specs.View.{exprs_view};
@@ -16,7 +16,7 @@ ghost use Rattle.verilog_expressions.specs.Grows.{by_operators, by_operator, by_
 ghost use Rattle.verilog_expressions.specs.Others.{others_view};
 ghost use Rattle.verilog_expressions.specs.declared.fault.ReadFault.TheVariants as read_fault;
 ghost use Rattle.verilog_expressions.specs.declared.fault.Wrong.TheVariants as wrong;
-ghost use Rattle.verilog_expressions.specs.Measured.{measured_view};
+ghost use Rattle.verilog_expressions.specs.Measured.{IsLow, measured_view};
 ghost use Rattle.verilog_expressions.specs.Views.{behind_token};
 
 use crate::cursor::Cursor;
@@ -214,7 +214,8 @@ pub fn in_parentheses<'a>(
     cursor: &mut Cursor<'_, 'a>,
     depth: u32,
 ) -> Result<(Token<'a>, Measured), ReadFault>
-    ensures { Gives behind_token (reads verilog grammar depth (both (only k.OpenParen) (before (nest an_expression) k.CloseParen)) cursor.old) result cursor.new }
+    ensures read { Gives behind_token (reads verilog grammar depth (both (only k.OpenParen) (before (nest an_expression) k.CloseParen)) cursor.old) result cursor.new }
+    ensures low { IfOk result (λ found. IsLow (measured_view found.1)) }
 {
     let open = cursor.take(Kind::OpenParen)?;
     let inner = expression(alloc, cursor, depth)?;
@@ -266,7 +267,7 @@ fn braced(alloc: Global, cursor: &mut Cursor<'_, '_>, depth: u32) -> Result<Meas
     }
     cursor.take(Kind::OpenBrace)?;
     let first = expression(alloc, cursor, depth)?;
-    let parts = with_others(alloc, cursor, depth, head.depth(), first)?;
+    let parts = with_others(alloc, cursor, depth, head.part_depth(), first)?;
     cursor.take(Kind::CloseBrace)?;
     cursor.take(Kind::CloseBrace)?;
     Ok(Measured::repeat(alloc, open.place, head, parts)?)
@@ -281,6 +282,8 @@ fn with_others(
     start: Depth,
     first: Measured,
 ) -> Result<MeasuredList, ReadFault>
+    requires start { start.height < 2 ^ 32 }
+    requires first { IsLow (measured_view first) }
     ensures others { Gives others_view (reads verilog grammar depth (many (after k.Comma (nest an_expression))) cursor.old) result cursor.new }
     ensures exprs { IfOk result (λ l. exprs_view l.exprs.items ≡ measured_view first ∷ others_view l) }
     ensures start { IfOk result (λ l. l.start ≡ start) }

@@ -1,6 +1,6 @@
 //! Names with selects, and the left sides of assignments.
 
-ghost use Rattle.std.specs.Prelude.{◌≡◌, ◌∷◌, IfOk};
+ghost use Rattle.std.specs.Prelude.{◌≡◌, ◌<◌, ◌^◌, ◌∷◌, IfOk};
 ghost use Rattle.grammar_rules.specs.Rule.{next, member, many, made, both, nest};
 ghost use Rattle.grammar_rules.specs.Grammar.{reads, phrase};
 ghost use Rattle.verilog_tree.specs.View.{exprs_view};
@@ -12,7 +12,7 @@ ghost use Rattle.verilog_grammar.specs.Expressions.{identifier_of, selects_rule,
 ghost use Rattle.verilog_expressions.specs.Gives.{Gives, Fails};
 ghost use Rattle.verilog_expressions.specs.Grows.{by_select};
 ghost use Rattle.verilog_expressions.specs.Others.{others_view};
-ghost use Rattle.verilog_expressions.specs.Measured.{measured_view};
+ghost use Rattle.verilog_expressions.specs.Measured.{IsLow, measured_view};
 
 use crate::cursor::Cursor;
 use crate::expr::{expression, may_grow};
@@ -90,7 +90,8 @@ fn bound(
     depth: u32,
     kind: Kind,
 ) -> Result<Measured, ReadFault>
-    ensures { Gives measured_view (reads verilog grammar depth (after kind (before (nest an_expression) k.CloseBracket)) cursor.old) result cursor.new }
+    ensures read { Gives measured_view (reads verilog grammar depth (after kind (before (nest an_expression) k.CloseBracket)) cursor.old) result cursor.new }
+    ensures low { IfOk result (λ e. IsLow (measured_view e)) }
 {
     cursor.take(kind)?;
     let last = expression(alloc, cursor, depth)?;
@@ -175,6 +176,8 @@ fn with_targets(
     start: Depth,
     first: Measured,
 ) -> Result<MeasuredList, ReadFault>
+    requires start { start.height < 2 ^ 32 }
+    requires first { IsLow (measured_view first) }
     ensures others { Gives others_view (reads verilog grammar depth (many (after k.Comma (nest a_target))) cursor.old) result cursor.new }
     ensures exprs { IfOk result (λ l. exprs_view l.exprs.items ≡ measured_view first ∷ others_view l) }
     ensures start { IfOk result (λ l. l.start ≡ start) }

@@ -51,7 +51,7 @@ fn a_range_is_copied(rt: HostRuntime) -> Result<(), Fail> {
 fn the_first_of_the_innermost_is_deepest(rt: HostRuntime) -> Result<(), Fail> {
     let (one, other) = (Depth::alone(at(1)), Depth::alone(at(2)));
     assert!(rt; one.deeper(other) == one);
-    assert!(rt; one.deeper(other.under()?) == other.under()?);
-    assert!(rt; Depth::none(at(3)).deeper(one).under()?.height == 2);
+    assert!(rt; one.deeper(other.under()) == other.under());
+    assert!(rt; Depth::none(at(3)).deeper(one).under().height == 2);
     Ok(())
 }

@@ -1,7 +1,7 @@
-ghost use Rattle.std.specs.Prelude.{◌≡◌, IfOk};
+ghost use Rattle.std.specs.Prelude.{◌≡◌, ◌<◌, ◌-◌, ◌^◌, max};
 ghost use Rattle.verilog_tree.specs.Depth.{alone, none, deeper, under};
 
-use cov_host::{NoMemory, Place};
+use cov_host::Place;
 
 /// How deep an expression nests: that of a number or a name is 1, and that of any other is one more than the greatest
 /// of the expressions directly in it. The place is where the first of the innermost ones begins.
@@ -23,14 +23,16 @@ impl Depth {
 
     /// Of no expression.
     pub fn none(place: Place) -> Depth
-        ensures { result ≡ none place }
+        ensures none { result ≡ none place }
+        ensures height { result.height ≡ 0 }
     {
         Depth { height: 0, place }
     }
 
     /// The deeper of two expressions, of which `other` comes later, and the first where they are equal.
     pub fn deeper(self, other: Depth) -> Depth
-        ensures { result ≡ deeper self other }
+        ensures deeper { result ≡ deeper self other }
+        ensures height { result.height ≡ max self.height other.height }
     {
         if other.height <= self.height {
             self
@@ -39,16 +41,14 @@ impl Depth {
         }
     }
 
-    /// Of an expression of which this is the deepest part. A depth of 2^64 has no memory.
-    pub fn under(self) -> Result<Depth, NoMemory>
-        ensures { IfOk result (λ d. d ≡ under self) }
+    /// Of an expression of which this is the deepest part.
+    pub fn under(self) -> Depth
+        requires { self.height < 2 ^ 64 - 1 }
+        ensures { result ≡ under self }
     {
-        if self.height == u64::MAX {
-            return Err(NoMemory);
-        }
-        Ok(Depth {
+        Depth {
             height: self.height + 1,
             place: self.place,
-        })
+        }
     }
 }

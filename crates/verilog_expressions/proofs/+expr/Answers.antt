@@ -1,4 +1,4 @@
-use Rattle.std.proofs.Common.{◌≡◌, ◌<◌, ◌-◌, Ok, refl, sym, arith, subst, ◌∙◌}
+use Rattle.std.proofs.Common.{◌≡◌, ◌<◌, ◌-◌, Ok, refl, sym, arith, rules, subst, ◌∙◌}
 use Rattle.std.proofs.lemmas.Result.{err_from_is_err_and}
 use Rattle.grammar_rules.specs.Rule.{nest}
 use Rattle.grammar_rules.specs.Grammar.{phrase, reads}
@@ -15,6 +15,7 @@ use Rattle.verilog_expressions.specs.Measured.{measured_view}
 use Rattle.verilog_expressions.specs.Others.{others_view}
 use Rattle.verilog_expressions.proofs.LevelRules.{operators_stop, operators_more, operators_fail, operator_takes_tokens, level_read, level_fails, no_tighter, same_rank}
 use Rattle.verilog_expressions.proofs.Choices.{expr_alone, expr_chosen}
+use Rattle.verilog_expressions.proofs.Lowness.{read_low}
 use Rattle.verilog_expressions.proofs.Selects.{name_alone, name_fails, once_alone, twice_selected, once_read, name_once, twice}
 use Rattle.verilog_expressions.proofs.Operators.{unary_read, operation_read, cast_read}
 use Rattle.verilog_expressions.proofs.Others.{none_else, first_alone, one_else, one_behind, going_none, others_more, others_end, others_fail, item_read, no_token, no_phrase}
@@ -107,7 +108,7 @@ expr::unary-returns t c =
 pub expr::cast-returns : goal.expr::cast-returns
 expr::cast-returns t c =
     rw (c.in_ok-sign.ensures, c.is_signed_cast-signed.ensures, c.kind.ensures)
-    (cast_read c.args.depth c.args.cursor.now _ c.in_parentheses.new.cursor _ _ (measured_view c.in_ok-inner.inner) c.in_ok-word.ensures c.in_ok-inner.ensures)
+    (cast_read c.args.depth c.args.cursor.now _ c.in_parentheses.new.cursor _ _ (measured_view c.in_ok-inner.inner) c.in_ok-word.ensures c.in_ok-inner.ensures.read)
 
 pub expr::with_others-more-init : goal.expr::with_others-more-init
 expr::with_others-more-init t c =
@@ -183,3 +184,45 @@ select::selects-returns t c =
     c.in_ok-name.ensures (sym c.sees.ensures ∙ c.if-not-sees.false) c.in_ok-part.ensures (sym c.sees-2.ensures ∙ c.if-not-sees-2.false)
     (once_read c.args.depth c.args.cursor.now c.identifier.new.cursor c.selected.new.cursor name part c.in_ok-name.ensures c.in_ok-part.ensures))
     c.selected-2.ensures
+
+pub expr::choice-choice-requires-clause-yes : goal.expr::choice-choice-requires-clause-yes
+expr::choice-choice-requires-clause-yes t c = read_low c.args.depth expression _ _ _ (omega arith) c.in_ok-yes.ensures
+
+pub expr::choice-choice-requires-clause-no : goal.expr::choice-choice-requires-clause-no
+expr::choice-choice-requires-clause-no t c = read_low c.args.depth expression _ _ _ (omega arith) c.in_ok-no.ensures
+
+pub expr::operation-binary-requires-clause-right : goal.expr::operation-binary-requires-clause-right
+expr::operation-binary-requires-clause-right t c = read_low c.args.depth (operand c.tighter.result) _ _ _ (omega arith) c.in_ok-right.ensures
+
+pub expr::unary-unary-requires : goal.expr::unary-unary-requires
+expr::unary-unary-requires t c = read_low c.args.depth (operand level.Unary) _ _ _ (omega arith) c.in_ok-inner.ensures
+
+pub expr::in_parentheses-returns-clause-low : goal.expr::in_parentheses-returns-clause-low
+expr::in_parentheses-returns-clause-low t c = read_low c.args.depth expression _ _ _ (omega arith) c.in_ok-inner.ensures
+
+pub expr::braced-with_others-requires : goal.expr::braced-with_others-requires
+expr::braced-with_others-requires t c = (search rules, (omega (arith, c.none.ensures.height), read_low c.args.depth expression _ _ _ (omega arith) c.in_ok-head.ensures))
+
+pub expr::braced-part_depth-requires : goal.expr::braced-part_depth-requires
+expr::braced-part_depth-requires t c = read_low c.args.depth expression _ _ _ (omega arith) c.in_ok-head.ensures
+
+pub expr::braced-with_others-requires-2 : goal.expr::braced-with_others-requires-2
+expr::braced-with_others-requires-2 t c = (search rules, (c.part_depth.ensures.low, read_low c.args.depth expression _ _ _ (omega arith) c.in_ok-first.ensures))
+
+pub expr::with_others-push-requires : goal.expr::with_others-push-requires
+expr::with_others-push-requires t c = read_low c.args.depth expression _ _ _ (omega arith) c.in_ok-next.ensures
+
+pub select::bound-returns-clause-low : goal.select::bound-returns-clause-low
+select::bound-returns-clause-low t c = read_low c.args.depth expression _ _ _ (omega arith) c.in_ok-last.ensures
+
+pub select::selected-bit-requires-clause-index : goal.select::selected-bit-requires-clause-index
+select::selected-bit-requires-clause-index t c = read_low c.args.depth expression _ _ _ (omega arith) c.in_ok-head.ensures
+
+pub select::selected-part-requires-clause-high : goal.select::selected-part-requires-clause-high
+select::selected-part-requires-clause-high t c = read_low c.args.depth expression _ _ _ (omega arith) c.in_ok-head.ensures
+
+pub select::selected-slide-requires-clause-base : goal.select::selected-slide-requires-clause-base
+select::selected-slide-requires-clause-base t c = read_low c.args.depth expression _ _ _ (omega arith) c.in_ok-head.ensures
+
+pub select::selected-slide-requires-else-sees-3-clause-base : goal.select::selected-slide-requires-else-sees-3-clause-base
+select::selected-slide-requires-else-sees-3-clause-base t c = read_low c.args.depth expression _ _ _ (omega arith) c.in_ok-head.ensures

@@ -44,7 +44,7 @@ returns-clause-goes c =
     c.counts-number.ensures.counts c.in_ok-check_net.ensures
     (c.in_ok-process.ensures.built c.counts-number.result.processes c.args.place)
     (refl, omega arith, omega (arith, c.in_ok-process.ensures.counted))
-    c.add.ensures.tally c.add.ensures.memories c.add.ensures.draft
+    c.add.ensures.tally c.add.ensures.memories c.add.ensures.drafted c.add.ensures.draft
 
 pub returns-clause-clean : goal.returns-clause-clean
 returns-clause-clean c =

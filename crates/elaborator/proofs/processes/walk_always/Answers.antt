@@ -39,4 +39,4 @@ returns-clause-goes c =
     c.counts-number.ensures.counts c.in_ok-check_always.ensures.met
     (c.in_ok-process.ensures.built k c.args.place ∙ ap (λ h. (always c.args.ground.base h numbers.instance k c.args.place w s numbers.line numbers.node).process) kept)
     (refl, c.in_ok-process.ensures.lines, c.in_ok-process.ensures.counted ∙ ap (λ h. numbers.node + statement_nodes h s) kept)
-    c.add.ensures.tally c.add.ensures.memories c.add.ensures.draft
+    c.add.ensures.tally c.add.ensures.memories c.add.ensures.drafted c.add.ensures.draft

@@ -34,4 +34,4 @@ returns c =
     c.counts-number.ensures.counts c.in_ok-check_continuous.ensures
     (c.in_ok-process.ensures.built c.counts-number.result.processes c.args.place)
     (refl, omega arith, omega (arith, c.in_ok-process.ensures.counted))
-    c.add.ensures.tally c.add.ensures.memories c.add.ensures.draft
+    c.add.ensures.tally c.add.ensures.memories c.add.ensures.drafted c.add.ensures.draft

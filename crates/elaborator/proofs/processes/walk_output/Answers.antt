@@ -29,4 +29,4 @@ returns c =
     c.counts-number.ensures.counts c.in_ok-check_joined_output.ensures
     (c.in_ok-process.ensures c.counts-number.result.processes c.args.place)
     (refl, omega arith, omega arith)
-    c.add.ensures.tally c.add.ensures.memories c.add.ensures.draft
+    c.add.ensures.tally c.add.ensures.memories c.add.ensures.drafted c.add.ensures.draft

@@ -1,4 +1,4 @@
-use Rattle.std.proofs.Common.{refl, sym, ◌∙◌}
+use Rattle.std.proofs.Common.{refl, sym, ◌∙◌, arith, rules}
 use Rattle.std.proofs.lemmas.Result.{err_from_is_err_and}
 use Rattle.grammar_rules.specs.Rule.{nest}
 use Rattle.grammar_rules.proofs.Language.{falls}
@@ -9,6 +9,7 @@ use Rattle.verilog_grammar.specs.Parts.{after}
 use Rattle.verilog_grammar.proofs.Verilog.{tables, passes}
 use Rattle.verilog_expressions.specs.Measured.{measured_view}
 use Rattle.verilog_expressions.specs.Others.{others_view}
+use Rattle.verilog_expressions.proofs.Lowness.{read_low}
 use Rattle.verilog_expressions.proofs.Others.{none_else, first_alone, one_else, one_behind, going_none, others_more, others_end, others_fail, item_read, no_token, no_phrase}
 use Rattle.verilog_expressions.proofs.select.+left_side.Goals as goal
 
@@ -56,3 +57,9 @@ with_targets-returns-in_err-next-clause-others t c =
     rw (p.1, p.2)
     (others_fail c.args.depth (after k.Comma (nest a_target)) refl refl (others_view c.more.all) c.more.cursor _ c.in_err-next.field-0.0 (sym c.sees.ensures ∙ c.more-test.true)
     (no_phrase c.args.depth k.Comma a_target c.more.cursor _ _ c.in_err-next.field-0.0 c.in_ok-take.ensures c.in_err-next.ensures) c.more.invariant.others)
+
+pub targets-with_targets-requires : goal.targets-with_targets-requires
+targets-with_targets-requires t c = (search rules, (omega (arith, c.none.ensures.height), read_low c.args.depth a_target _ _ _ (omega arith) c.in_ok-first.ensures))
+
+pub with_targets-push-requires : goal.with_targets-push-requires
+with_targets-push-requires t c = read_low c.args.depth a_target _ _ _ (omega arith) c.in_ok-next.ensures
