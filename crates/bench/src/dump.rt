@@ -74,7 +74,7 @@ fn count_piece(body: &mut Body, piece: &[u8], counts: &mut Counts) -> bool {
         match step.item {
             Item::Time(_) => counts.times = counts.times.wrapping_add(1),
             Item::Value { .. } => counts.changes = counts.changes.wrapping_add(1),
-            Item::More | Item::End => {}
+            Item::Off | Item::On(_) | Item::More | Item::End => {}
         }
     }
     true

@@ -9,22 +9,23 @@ use Rattle.std.proofs.lemmas.List.Elements.{All-weaker}
 use Rattle.cov_host.specs.Decimal.{decimal_value}
 use Rattle.four_state.specs.Vector.{Vector, fill, top}
 use Rattle.vcd_reader.specs.Answer.{Answer, fault_if, unless}
-use Rattle.vcd_reader.specs.Body.{Begun, nothing, digits, passed, comment, Said, said, begins, is_back, new_time, time_fault, value_of, change_of, change, saying, scalar, time_word, digits_word, are_digits, is_group_word, is_passed_letter, dollar_word, first_word, behind_letter, word_after}
+use Rattle.vcd_reader.specs.Body.{Begun, nothing, digits, passed, comment, Said, said, begins, is_back, new_time, time_fault, value_of, change_of, change, recorded, saying, scalar, at_time, time_word, digits_word, are_digits, is_group_word, most_stretches, with_stretch, goes_off, goes_on, is_passed_letter, dollar_word, first_word, behind_letter, word_after}
 use Rattle.vcd_reader.specs.Codes.{Code, code_of, is_unread_kind}
 use Rattle.vcd_reader.specs.Header.{END, Declared, code_fault, end_fault, field_fault, has_other_size, is_decimal, is_printable, keyword_fault, keyword_of, name_of, number_of, size_in, size_of, variable_fault, with_section, with_variable}
 use Rattle.vcd_reader.specs.Reading.{HeaderReading, Section, header_word, is_last, opened, section_word, with_field, word_in}
 use Rattle.vcd_reader.specs.Values.{digit_bit, digit_bits, extension, is_digit, value_bits}
 use Rattle.vcd_reader.specs.Words.{Word}
 use Rattle.vcd_reader.specs.declared.entry.Entry.{Entry}
-use Rattle.vcd_reader.specs.declared.entry.Entry.TheVariants.{Time, Value}
+use Rattle.vcd_reader.specs.declared.entry.Entry.TheVariants.{Time, Value, Off, On}
 use Rattle.vcd_reader.specs.declared.fault.DumpFault.{DumpFault}
 use Rattle.vcd_reader.specs.declared.fault.DumpFault.TheVariants.{At}
 use Rattle.vcd_reader.specs.declared.fault.DumpKind.TheVariants.{BadChange, BadHeader, Gap, LongCode, TimeBack, TimeTooLarge, VectorTooLong}
 use Rattle.vcd_reader.specs.declared.keyword.Keyword.{Keyword}
 use Rattle.vcd_reader.specs.declared.keyword.Keyword.TheVariants.{Scope, Upscope, Variable, EndDefinitions, Passed}
+use Rattle.vcd_reader.specs.declared.past.Past.{Past}
 use Rattle.vcd_reader.specs.declared.vars.Var.{Var}
 use Rattle.entry_laws.proofs.Codes.{AreSized, IsSizedIn, declared_more, found_at, sizes_of}
-use Rattle.entry_laws.specs.Entries.{FitsCode, IsEntry}
+use Rattle.entry_laws.specs.Entries.{FitsCode, IsEntry, IsSmall}
 
 -- ---- the header
 
@@ -201,14 +202,18 @@ module _ (vars : List Var) (table : List Code) (is : AreSized vars table) where
   scalar_width : (digit : ℕ) (code : List ℕ) (at : ℕ) → AnswersEntry vars (scalar table digit code at)
   scalar_width digit code at = either_width (length code == 0) (Err (At BadChange at)) (change table (digit ∷ []) at code at) tt (change_width (digit ∷ []) at code at)
 
-  -- what a word says, if it is no fault
+  -- what a word says, and the last time then, if it is no fault
   abbrev pub SaidEntry : Answer Said → Type 0
-  SaidEntry (Ok s) = SaysEntry vars s.0
+  SaidEntry (Ok s) = SaysEntry vars s.0 × IsSmall s.1.past.last
   SaidEntry (Err f) = Unit {0}
 
-  saying_width : (last : Option ℕ) (answer : Answer (Option Entry)) → AnswersEntry vars answer → SaidEntry (saying last answer)
-  saying_width last (Ok says) h = h
-  saying_width last (Err f) h = tt
+  recorded_width : (is_on : Bool) (says : Option Entry) → SaysEntry vars says → SaysEntry vars (recorded is_on says)
+  recorded_width true says h = h
+  recorded_width false says h = tt
+
+  saying_width : (past : Past) (answer : Answer (Option Entry)) → IsSmall past.last → AnswersEntry vars answer → SaidEntry (saying past answer)
+  saying_width past (Ok says) small h = (recorded_width past.is_on says h, small)
+  saying_width past (Err f) small h = tt
 
   either_said : (b : Bool) (x y : Answer Said) → SaidEntry x → SaidEntry y → SaidEntry (cond b x y)
   either_said true x y p q = p
@@ -237,44 +242,55 @@ module _ (vars : List Var) (table : List Code) (is : AreSized vars table) where
           let yes : nat_le (2 ^ 63) (decimal_value word) ≡ true = le-leb (2 ^ 63) (decimal_value word) great in
           absurd (false≢true (sym no ∙ yes))
 
-  time_width : (word : List ℕ) (at : ℕ) (last : Option ℕ) → SaidEntry (time_word word at last)
-  time_width word at last =
-      saying_width (Some (decimal_value word)) _
-      (long_enough (time_fault last word at) (new_time last (decimal_value word)) (λ none. new_time_width last (decimal_value word) (small_time last word at none)))
+  time_width : (word : List ℕ) (at : ℕ) (past : Past) → SaidEntry (time_word word at past)
+  time_width word at past = go (time_fault past.last word at) (small_time past.last word at)
+    where
+      go : (o : Option DumpFault) → (o ≡ None → decimal_value word < 2 ^ 63) → SaidEntry (saying (at_time past (decimal_value word)) (unless o (new_time past.last (decimal_value word))))
+      go None small = (recorded_width past.is_on (new_time past.last (decimal_value word)) (new_time_width past.last (decimal_value word) (small refl)), small refl)
+      go (Some f) small = tt
 
-  begins_width : (o : Option DumpFault) (last : Option ℕ) (begun : Begun) → SaidEntry (unless o (begins last begun))
-  begins_width None last begun = tt
-  begins_width (Some f) last begun = tt
+  begins_width : (o : Option DumpFault) (past : Past) (begun : Begun) → IsSmall past.last → SaidEntry (unless o (begins past begun))
+  begins_width None past begun small = (tt, small)
+  begins_width (Some f) past begun small = tt
 
-  dollar_width : (word : List ℕ) (at : ℕ) (last : Option ℕ) → SaidEntry (dollar_word word at last)
-  dollar_width word at last =
+  on_width : (past : Past) (at : ℕ) → IsSmall past.last → SaidEntry (goes_on past at)
+  on_width past at small =
+      let begun : Answer Said = Ok (said (Some (On past.last)) (with_stretch past)) in
+      let more : Answer Said = cond (nat_le most_stretches past.stretches) (Err (At Gap at)) begun in
+      either_said past.is_on (Ok (said None past)) more (tt, small)
+      (either_said (nat_le most_stretches past.stretches) (Err (At Gap at)) begun tt (small, small))
+
+  dollar_width : (word : List ℕ) (at : ℕ) (past : Past) → IsSmall past.last → SaidEntry (dollar_word word at past)
+  dollar_width word at past small =
       let bad : Answer Said = Err (At BadChange at) in
-      let gap : Answer Said = cond (bytes_eq word (codes "$dumpoff")) (Err (At Gap at)) bad in
-      let begun : Answer Said = cond (bytes_eq word (codes "$comment")) (Ok (begins last comment)) gap in
-      either_said (is_group_word word) (Ok (said None last)) begun tt
-      (either_said (bytes_eq word (codes "$comment")) (Ok (begins last comment)) gap tt
-      (either_said (bytes_eq word (codes "$dumpoff")) (Err (At Gap at)) bad tt tt))
+      let goes : Answer Said = cond (bytes_eq word (codes "$dumpon")) (goes_on past at) bad in
+      let stops : Answer Said = cond (bytes_eq word (codes "$dumpoff")) (Ok (goes_off past)) goes in
+      let begun : Answer Said = cond (bytes_eq word (codes "$comment")) (Ok (begins past comment)) stops in
+      either_said (is_group_word word) (Ok (said None past)) begun (tt, small)
+      (either_said (bytes_eq word (codes "$comment")) (Ok (begins past comment)) stops (tt, small)
+      (either_said (bytes_eq word (codes "$dumpoff")) (Ok (goes_off past)) goes (some_width past.is_on Off tt, small)
+      (either_said (bytes_eq word (codes "$dumpon")) (goes_on past at) bad (on_width past at small) tt)))
 
-  first_width : (bytes : List ℕ) (at : ℕ) (last : Option ℕ) → SaidEntry (first_word table bytes at last)
-  first_width [] at last = tt
-  first_width (byte ∷ bytes) at last =
-      let other : Answer Said = dollar_word (byte ∷ bytes) at last in
-      let real : Answer Said = cond (is_passed_letter byte) (Ok (begins last passed)) other in
-      let one : Answer Said = cond (is_digit byte) (saying last (scalar table byte bytes at)) real in
+  first_width : (bytes : List ℕ) (at : ℕ) (past : Past) → IsSmall past.last → SaidEntry (first_word table bytes at past)
+  first_width [] at past small = tt
+  first_width (byte ∷ bytes) at past small =
+      let other : Answer Said = dollar_word (byte ∷ bytes) at past in
+      let real : Answer Said = cond (is_passed_letter byte) (Ok (begins past passed)) other in
+      let one : Answer Said = cond (is_digit byte) (saying past (scalar table byte bytes at)) real in
       let first : Word = record { at = at; bytes = byte ∷ bytes } in
-      let vector : Answer Said = cond (eqb byte 98 || eqb byte 66) (digits_word bytes first last) one in
-      either_said (eqb byte 35) (time_word bytes at last) vector (time_width bytes at last)
-      (either_said (eqb byte 98 || eqb byte 66) (digits_word bytes first last) one (begins_width (fault_if (not (are_digits bytes)) BadChange at) last (digits first))
-      (either_said (is_digit byte) (saying last (scalar table byte bytes at)) real (saying_width last (scalar table byte bytes at) (scalar_width byte bytes at))
-      (either_said (is_passed_letter byte) (Ok (begins last passed)) other tt (dollar_width (byte ∷ bytes) at last))))
+      let vector : Answer Said = cond (eqb byte 98 || eqb byte 66) (digits_word bytes first past) one in
+      either_said (eqb byte 35) (time_word bytes at past) vector (time_width bytes at past)
+      (either_said (eqb byte 98 || eqb byte 66) (digits_word bytes first past) one (begins_width (fault_if (not (are_digits bytes)) BadChange at) past (digits first) small)
+      (either_said (is_digit byte) (saying past (scalar table byte bytes at)) real (saying_width past (scalar table byte bytes at) small (scalar_width byte bytes at))
+      (either_said (is_passed_letter byte) (Ok (begins past passed)) other (tt, small) (dollar_width (byte ∷ bytes) at past small))))
 
-  comment_width : (b : Bool) (last : Option ℕ) → SaidEntry (Ok (cond b (said None last) (begins last comment)))
-  comment_width true last = tt
-  comment_width false last = tt
+  comment_width : (b : Bool) (past : Past) → IsSmall past.last → SaidEntry (Ok (cond b (said None past) (begins past comment)))
+  comment_width true past small = (tt, small)
+  comment_width false past small = (tt, small)
 
   -- a word of the body
-  pub word_width : (begun : Begun) (word : Word) (last : Option ℕ) → SaidEntry (word_after table begun word last)
-  word_width nothing word last = first_width word.bytes word.at last
-  word_width (digits first) word last = saying_width last _ (change_width (behind_letter first.bytes) first.at word.bytes word.at)
-  word_width passed word last = tt
-  word_width comment word last = comment_width (bytes_eq word.bytes END) last
+  pub word_width : (begun : Begun) (word : Word) (past : Past) → IsSmall past.last → SaidEntry (word_after table begun word past)
+  word_width nothing word past small = first_width word.bytes word.at past small
+  word_width (digits first) word past small = saying_width past _ small (change_width (behind_letter first.bytes) first.at word.bytes word.at)
+  word_width passed word past small = (tt, small)
+  word_width comment word past small = comment_width (bytes_eq word.bytes END) past small

@@ -12,24 +12,24 @@ use Rattle.vcd_reader.specs.Words.{Word, words_of}
 use Rattle.vcd_reader.specs.declared.entry.Entry.{Entry}
 use Rattle.entry_laws.proofs.Codes.{AreSized}
 use Rattle.entry_laws.proofs.Sized.{AnswersFitting, HeaderFits, SaidEntry, SaysEntry, header_word_fits, word_width}
-use Rattle.entry_laws.specs.Entries.{IsEntry, AreEntries}
+use Rattle.entry_laws.specs.Entries.{IsEntry, AreEntries, IsSmall}
 
 -- what a meaning says of entries
 abbrev MeansEntries : Meaning → Type 0
 MeansEntries (header reading) = HeaderFits reading
-MeansEntries (body b) = AreSized b.vars b.codes × AreEntries b.vars b.items
+MeansEntries (body b) = (AreSized b.vars b.codes × AreEntries b.vars b.items) × IsSmall b.reading.past.last
 MeansEntries (fault f) = Unit {0}
 
 add_says : (b : Body) (says : Option Entry) → AreEntries b.vars b.items → SaysEntry b.vars says → AreEntries b.vars (b.items ++ option_to_list says)
 add_says b None h s = All-append (IsEntry b.vars) b.items [] h (All-nil (IsEntry b.vars))
 add_says b (Some entry) h s = All-append (IsEntry b.vars) b.items (entry ∷ []) h (All-cons (IsEntry b.vars) entry [] s (All-nil (IsEntry b.vars)))
 
-body_more : (b : Body) (m : MeansEntries (body b)) (answer : Answer Said) → SaidEntry b.vars b.codes m.0 answer → MeansEntries (after_body_word b answer)
-body_more b m (Ok s) h = (m.0, add_says b s.0 m.1 h)
+body_more : (b : Body) (m : MeansEntries (body b)) (answer : Answer Said) → SaidEntry b.vars b.codes m.0.0 answer → MeansEntries (after_body_word b answer)
+body_more b m (Ok s) h = ((m.0.0, add_says b s.0 m.0.1 h.0), h.1)
 body_more b m (Err f) h = tt
 
 ended_or_not : (last : Bool) (reading : HeaderReading) → HeaderFits reading → MeansEntries (after_header_word (Ok (last, reading)))
-ended_or_not true reading is = (is.sized, All-nil (IsEntry reading.declared.vars))
+ended_or_not true reading is = ((is.sized, All-nil (IsEntry reading.declared.vars)), tt)
 ended_or_not false reading is = is
 
 header_more : (answer : Answer (Bool × HeaderReading)) → AnswersFitting answer → MeansEntries (after_header_word answer)
@@ -38,7 +38,7 @@ header_more (Err f) is = tt
 
 reading_more : (means : Meaning) (word : Word) → MeansEntries means → MeansEntries (reading_on means word)
 reading_more (header reading) word m = header_more (header_word reading word) (header_word_fits reading word m)
-reading_more (body b) word m = body_more b m (next_word b.codes b.reading word) (word_width b.vars b.codes m.0 b.reading.begun word b.reading.last)
+reading_more (body b) word m = body_more b m (next_word b.codes b.reading word) (word_width b.vars b.codes m.0.0 b.reading.begun word b.reading.past m.1)
 reading_more (fault f) word m = tt
 
 word_more : (means : Meaning) (word : Word) → MeansEntries means → MeansEntries (with_word means word)
@@ -54,13 +54,13 @@ at_start = record { sized = record { numbers = λ k l. absurd (omega (arith, l))
 
 -- what was read of a text
 pub entries_so_far : (text word : List ℕ) (b : Body) → Stands text (body b) word → AreEntries b.vars b.items
-entries_so_far text word b s = (subst (λ (m : Meaning). MeansEntries m) s.meaning (words_more start (words_of s.front) at_start)).1
+entries_so_far text word b s = (subst (λ (m : Meaning). MeansEntries m) s.meaning (words_more start (words_of s.front) at_start)).0.1
 
 entries_at_end : (text : List ℕ) (b : Body) → EndsAs text b → AreEntries b.vars b.items
 entries_at_end text b e =
     let front : MeansEntries e.means = subst (λ (m : Meaning). MeansEntries m) e.stands.meaning (words_more start (words_of e.stands.front) at_start) in
     let whole : MeansEntries (body b) = subst (λ (m : Meaning). MeansEntries m) e.meaning (words_more e.means (word_at (length text - length e.word) e.word) front) in
-    whole.1
+    whole.0.1
 
 pub body_entries : (text : List ℕ) (b : Body) → SaysBody text b → AreEntries b.vars b.items
 body_entries text b (inl begun) = entries_so_far begun.front begun.word b begun.stands

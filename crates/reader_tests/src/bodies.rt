@@ -7,8 +7,15 @@ use vcd_reader::{Item, Var, Vars};
 const REALISTIC: &[u8] =
     b"$date\n\tThu Jan  4 12:00:00 2024\n$end\n$version\n\town example\n$end\n$timescale\n\t1ns\n$end\n$scope module tb $end\n$var wire 2 ! st [1:0] $end\n$var reg 1 \" clk $end\n$var reg 1 # rst $end\n$var real 1 ) load $end\n$var reg 8 ( \\mem[0] [7:0] $end\n$scope module dut $end\n$var wire 1 \" clk $end\n$var wire 1 % go $end\n$var wire 1 & last $end\n$var wire 1 # rst $end\n$var parameter 2 ' IDLE $end\n$var reg 2 ! st [1:0] $end\n$upscope $end\n$upscope $end\n$enddefinitions $end\n$comment Show the parameter values. $end\n$dumpall\nb0 '\n$end\n#0\n$dumpvars\nr0 )\nbx (\nbx !\n0\"\n1#\n0%\nx&\n$end\n#5\n1\"\nb0 !\n0&\n#10\n0\"\n0#\n1%\n#15\n1\"\nb1 !\n#20\n0\"\n0%\n#25\n1\"\n1&\n#30\n0\"\n#35\n1\"\nb10 !\n0&\n#40\n0\"\n#45\n1\"\nb0 !\n#50\n0\"\n";
 
-/// A time with the width 0, or a change: its code, its width, and its masks of 1 and z and of x and z.
+/// A time with the width 0, or a change: its code, its width, and its masks of 1 and z and of x and z. Where the dump goes off
+/// or on there is a width of its own.
 type Expected = (u64, u8, u128, u128);
+
+/// The dump goes off.
+const OFF: Expected = (0, 253, 0, 0);
+
+/// The dump goes on before the first time.
+const ON: Expected = (0, 254, 0, 0);
 
 /// What the dump says, in order.
 #[rattlefmt::skip]
@@ -88,12 +95,47 @@ const BODIES: &[(&[u8], &[Expected])] = &[
         b"$dumpvars 1$var $end $dumpall $end $dumpon $comment #1 b2 $dumpoff $end 0$var",
         &[(1, 1, 1, 0), (1, 1, 0, 0)],
     ),
+    // Where the dump is off, times and changes are read and dropped. It goes on at the last time.
+    (
+        b"#3 $dumpoff x$var b1 ! #4 #6 $end $dumpon 1$var #6 #9",
+        &[
+            (3, 0, 0, 0),
+            OFF,
+            (6, 255, 0, 0),
+            (1, 1, 1, 0),
+            (9, 0, 0, 0),
+        ],
+    ),
+    // To go off where it is off, and on where it is on, means nothing. A stretch may begin where the one before ends.
+    (
+        b"#3 $dumpon $dumpoff $dumpoff $dumpon $dumpon 0$var",
+        &[(3, 0, 0, 0), OFF, (3, 255, 0, 0), (1, 1, 0, 0)],
+    ),
+    // Before the first time there is no time at which it goes on.
+    (
+        b"1$var $dumpoff x$var $dumpon 0$var #2",
+        &[(1, 1, 1, 0), OFF, ON, (1, 1, 0, 0), (2, 0, 0, 0)],
+    ),
+    (
+        b"#3 $dumpoff #4 $dumpon",
+        &[(3, 0, 0, 0), OFF, (4, 255, 0, 0)],
+    ),
+    (b"#3 $dumpoff #4", &[(3, 0, 0, 0), OFF]),
     (
         b"#9223372036854775807",
         &[(9_223_372_036_854_775_807, 0, 0, 0)],
     ),
     (b"r r", &[]),
 ];
+
+/// Whether a dump that goes on at this time, if there was one, is what is expected.
+fn is_begun(time: Option<u64>, expected: &Expected) -> bool {
+    let (first, width, _, _) = *expected;
+    match time {
+        None => width == 254,
+        Some(time) => width == 255 && time == first,
+    }
+}
 
 /// Whether an item is the expected one.
 fn is_expected(item: Item, expected: &Expected) -> bool {
@@ -106,6 +148,8 @@ fn is_expected(item: Item, expected: &Expected) -> bool {
                 && value.ones() == ones
                 && value.strange() == strange
         }
+        Item::Off => width == 253,
+        Item::On(time) => is_begun(time, expected),
         Item::More | Item::End => false,
     }
 }
@@ -123,7 +167,7 @@ fn is_wanted(expected: &Expected, wanted: Option<&[bool]>) -> bool {
     let (first, width, _, _) = *expected;
     match wanted {
         None => true,
-        Some(wanted) => width == 0 || wanted.get(first as usize) == Some(&true),
+        Some(wanted) => { width == 0 || width >= 253 || wanted.get(first as usize) == Some(&true) }
     }
 }
 

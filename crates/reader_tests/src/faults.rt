@@ -56,7 +56,11 @@ const BODY_FAULTS: &[(&[u8], DumpKind, u64)] = &[
     (b"1abcdefgh", DumpKind::UnknownCode, 0),
     (b"r", DumpKind::Truncated, 1),
     (b"s1 ", DumpKind::Truncated, 3),
-    (b"$dumpoff", DumpKind::Gap, 0),
+    (b"$dumpoff #5 #4", DumpKind::TimeBack, 12),
+    (b"#5 $dumpoff #8 $dumpon #7", DumpKind::TimeBack, 23),
+    (b"$dumpoff 1?", DumpKind::UnknownCode, 9),
+    (b"$dumpoff b000000001 !", DumpKind::VectorTooLong, 9),
+    (b"$dumpoffx", DumpKind::BadChange, 0),
     (b"$dumpvarsx", DumpKind::BadChange, 0),
     (b"$comment $end$", DumpKind::Truncated, 14),
     (b"2!", DumpKind::BadChange, 0),
@@ -115,6 +119,30 @@ fn has_body_fault(alloc: Global, body: &[u8], kind: DumpKind, byte: u64) -> bool
         }
         None => false,
     }
+}
+
+/// A body in which the dump goes off and on so often, 17 bytes each time.
+fn goes_off_and_on(alloc: Global, count: usize) -> Option<Vec<u8>> {
+    let mut body = Vec::new(alloc);
+    for _ in 0..count {
+        body.extend_from_slice(b"$dumpoff $dumpon ").ok()?;
+    }
+    Some(body)
+}
+
+/// Whether a body in which the dump goes off and on so often has this fault.
+fn has_too_many(alloc: Global, count: usize, byte: u64) -> bool {
+    match goes_off_and_on(alloc, count) {
+        Some(body) => has_body_fault(alloc, body.as_slice(), DumpKind::Gap, byte),
+        None => false,
+    }
+}
+
+#[test]
+fn a_dump_has_few_stretches(rt: HostRuntime) {
+    // The dump begins with a stretch, so the 1,024th time that it goes on is one too many.
+    assert!(rt; has_too_many(rt.alloc(), 1024, 17_400));
+    assert!(rt; !has_too_many(rt.alloc(), 1023, 17_400));
 }
 
 #[test]

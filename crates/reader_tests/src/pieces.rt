@@ -62,6 +62,8 @@ fn next_of(body: &mut Body, piece: &[u8], wanted: &[bool]) -> Result<Step, DumpF
             code,
             value: *body.value(),
         },
+        Saying::Off => Item::Off,
+        Saying::On(time) => Item::On(time),
         Saying::More => Item::More,
         Saying::End => Item::End,
     };

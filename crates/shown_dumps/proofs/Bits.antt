@@ -1,11 +1,11 @@
 -- The bits of bound signals.
-use Rattle.std.proofs.Common.{◌≡◌, ◌⊎◌, ℕ, suc, ◌+◌, ◌<◌, ◌≤◌, ◌==◌, ◌&&◌, Bool, true, false, cond, is_some, List, [], ◌∷◌, ◌++◌, length, map, get_or, Option, None, Some, refl, sym, ap, subst, ◌∙◌, inl, inr, arith}
+use Rattle.std.proofs.Common.{◌≡◌, ◌⊎◌, ⊎_elim, ℕ, suc, ◌+◌, ◌<◌, ◌≤◌, ◌==◌, ◌&&◌, Bool, true, false, cond, is_some, List, [], ◌∷◌, ◌++◌, length, map, get_or, Option, None, Some, refl, sym, ap, subst, ◌∙◌, inl, inr, arith}
 use Rattle.std.specs.Prelude.{find}
 use Rattle.std.specs.List.{range_with_len}
 use Rattle.std.specs.Option.{option_map, option_or}
 use Rattle.std.specs.Str.{bytes_eq}
 use Rattle.std.proofs.lemmas.Bool.{cases_Bool, eqb-true, false≢true}
-use Rattle.std.proofs.lemmas.List.Elements.{All-head, All-tail}
+use Rattle.std.proofs.lemmas.List.Elements.{All-cons, All-head, All-nil, All-tail}
 use Rattle.event_machine.specs.Cell.{Cell}
 use Rattle.four_state.specs.Vector.{Vector}
 use Rattle.four_state.specs.declared.bit.Bit.{Bit}
@@ -13,20 +13,22 @@ use Rattle.four_state.specs.declared.bit.Bit.TheVariants.{X}
 use Rattle.design_model.specs.Design.{cell, signal_bits}
 use Rattle.design_model.specs.View.{design_view}
 use Rattle.design_model.specs.declared.design.Design.{Design}
-use Rattle.vcd_reader.specs.Dump.{steps_of}
+use Rattle.vcd_reader.specs.Dump.{begun_at, later_stretches, stretches_of}
+use Rattle.vcd_reader.specs.Order.{is_on}
 use Rattle.vcd_reader.specs.Times.{Rises, last_time}
 use Rattle.vcd_reader.specs.declared.entry.Entry.{Entry}
-use Rattle.vcd_reader.specs.declared.entry.Entry.TheVariants.{Time, Value}
+use Rattle.vcd_reader.specs.declared.entry.Entry.TheVariants.{Off, On, Time, Value}
 use Rattle.vcd_reader.specs.declared.vars.Var.{Var}
 use Rattle.entry_laws.specs.Entries.{FitsCode, IsEntry, AreEntries}
 use Rattle.signal_binding.specs.Binding.{codes_of, first_code, names_of, signal_of}
 use Rattle.signal_binding.specs.Kinds.{holds_value}
 use Rattle.signal_binding.specs.Names.{ScopedName, code_under, holds}
 use Rattle.shown_dumps.specs.Laws.{dump_with}
-use Rattle.shown_dumps.specs.Said.{value_after}
-use Rattle.shown_dumps.specs.Shown.{bit_at, code_at, value_of_code}
+use Rattle.shown_dumps.specs.Said.{last_of, open_stretch, value_after}
+use Rattle.shown_dumps.specs.Shown.{bit_at, code_at, stretch_at, value_of_code}
 use Rattle.shown_dumps.proofs.Dumps.{code_is, coded_signal}
-use Rattle.shown_dumps.proofs.Values.{value_until}
+use Rattle.shown_dumps.proofs.Split.{open_is, open_none}
+use Rattle.shown_dumps.proofs.Stretches.{value_open}
 
 -- ---- the variable of a code that is bound
 
@@ -76,6 +78,8 @@ found_first vars width (x ∷ xs) code e = go (code_under vars width x) refl (λ
 
 value_fits : (vars : List Var) (entries : List Entry) (code : ℕ) (value : Vector) → AreEntries vars entries → value_after entries code ≡ Some value → FitsCode vars code value
 value_fits vars [] code value widths e = absurd cc
+value_fits vars (Off ∷ entries) code value widths e = absurd cc
+value_fits vars (On time ∷ entries) code value widths e = absurd cc
 value_fits vars (Time time ∷ entries) code value widths e = value_fits vars entries code value (All-tail (IsEntry vars) (Time time) entries widths) e
 value_fits vars (Value other there ∷ entries) code value widths e =
     go (value_after entries code) refl (cases_Bool (other == code)) (λ f. value_fits vars entries code value (All-tail (IsEntry vars) (Value other there) entries widths) f)
@@ -89,6 +93,22 @@ value_fits vars (Value other there ∷ entries) code value widths e =
     go None is (inr apart) later =
         let none : None ≡ Some value = sym (ap (λ b. cond b (Some there) None) apart) ∙ sym (ap (λ o. option_or o (cond (other == code) (Some there) None)) is) ∙ e in
         absurd cc
+
+-- what was said of the stretch that is on is as what was said
+begun_entries : (vars : List Var) (time : Option ℕ) (entries : List Entry) → AreEntries vars (On time ∷ entries) → AreEntries vars (begun_at time entries)
+begun_entries vars None entries widths = All-tail (IsEntry vars) (On None) entries widths
+begun_entries vars (Some t) entries widths = All-cons (IsEntry vars) (Time t) entries (All-head (IsEntry vars) (On (Some t)) entries widths) (All-tail (IsEntry vars) (On (Some t)) entries widths)
+
+last_entries : (vars : List Var) (entries s : List Entry) → AreEntries vars s → AreEntries vars entries → AreEntries vars (last_of s (later_stretches entries))
+last_entries vars [] s own widths = own
+last_entries vars (Time time ∷ entries) s own widths = last_entries vars entries s own (All-tail (IsEntry vars) (Time time) entries widths)
+last_entries vars (Value code value ∷ entries) s own widths = last_entries vars entries s own (All-tail (IsEntry vars) (Value code value) entries widths)
+last_entries vars (Off ∷ entries) s own widths = last_entries vars entries s own (All-tail (IsEntry vars) Off entries widths)
+last_entries vars (On time ∷ entries) s own widths =
+    last_entries vars entries (begun_at time entries) (begun_entries vars time entries widths) (All-tail (IsEntry vars) (On time) entries widths)
+
+pub open_entries : (vars : List Var) (entries : List Entry) → AreEntries vars entries → AreEntries vars (open_stretch entries)
+open_entries vars entries widths = ⊎_elim (λ on. subst (AreEntries vars) (sym (open_is entries on)) (last_entries vars entries entries widths widths)) (λ off. subst (AreEntries vars) (sym (open_none entries off)) (All-nil (IsEntry vars))) (cases_Bool (is_on entries))
 
 -- ---- bits
 
@@ -106,16 +126,16 @@ map_cells v s [] = refl
 map_cells v s (k ∷ ks) = ap (λ xs. v (cell s k) ∷ xs) (map_cells v s ks)
 
 pub bits_are : (design : Design) (vars : List Var) (instance : List ℕ) (entries more : List Entry) (last next s code t : ℕ) (value : Vector) → AreEntries vars entries
-    → Rises None (entries ++ Time next ∷ more) → last_time None entries ≡ Some last → last ≤ t → t < next → code_at (codes_of design vars instance) s ≡ Some code
-    → value_after entries code ≡ Some value
+    → Rises None (entries ++ Time next ∷ more) → last_time None (open_stretch entries) ≡ Some last → last ≤ t → t < next → code_at (codes_of design vars instance) s ≡ Some code
+    → value_after (open_stretch entries) code ≡ Some value
     → (value.bits ≡ signal_bits (design_view design) ((dump_with (codes_of design vars instance) entries next more).values t) s) × (value.signed ≡ false)
 bits_are design vars instance entries more last next s code t value widths rises is_last from until bound said =
     let within = coded_signal design vars instance s (ap is_some bound) in
     let var = found_first vars (signal_of design s).width (names_of design instance s) code (sym (code_is design vars instance s within) ∙ bound) in
-    let fits = value_fits vars entries code value widths said in
+    let fits = value_fits vars (open_stretch entries) code value (open_entries vars entries widths) said in
     let long : length value.bits ≡ (signal_of design s).width = fits.bits var.place var.found var.within (ap (λ (x : Var). x.code) (var.is var.found) ∙ var.code_is) ∙ ap (λ (x : Var). x.size) (var.is var.found) ∙ var.size in
-    let steps = steps_of (entries ++ Time next ∷ more) in
-    let dumped : value_of_code steps t (code_at (codes_of design vars instance) s) ≡ Some value = ap (value_of_code steps t) bound ∙ value_until entries more last next rises is_last code t from until ∙ said in
+    let steps = stretch_at (stretches_of (entries ++ Time next ∷ more)) t in
+    let dumped : value_of_code steps t (code_at (codes_of design vars instance) s) ≡ Some value = ap (value_of_code steps t) bound ∙ value_open entries more last next rises is_last code t from until ∙ said in
     let at : Cell → Bit = (dump_with (codes_of design vars instance) entries next more).values t in (
       sym
           (map_cells at s (range_with_len 0 (signal_of design s).width) ∙ ap (λ n. map (λ k. at (cell s k)) (range_with_len 0 n)) (sym long)

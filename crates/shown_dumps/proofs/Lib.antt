@@ -1,6 +1,10 @@
+pub mod Split
 pub mod Times
+pub mod Order
 pub mod Values
+pub mod Stretches
 pub mod Dumps
 pub mod Bits
 pub mod Fronts
+pub mod Gap
 pub mod Ongoing

@@ -4,3 +4,4 @@ pub mod Rounds
 pub mod Bound
 pub mod Laws
 pub mod Ongoing
+pub mod Example

@@ -1,11 +1,11 @@
 -- The reader of a body behind one byte more, or at the end.
-use Rattle.std.proofs.Common.{◌≡◌, ℕ, ◌+◌, ◌-◌, ◌<◌, ◌≤◌, Bool, true, false, List, [], ◌∷◌, ◌++◌, length, take, drop, get_or, Option, Some, None, Result, Ok, Err, refl, sym, ap, subst, ◌∙◌, append_assoc, inl, inr, arith}
+use Rattle.std.proofs.Common.{◌≡◌, ℕ, ◌+◌, ◌-◌, ◌<◌, ◌≤◌, Bool, true, false, List, [], ◌∷◌, ◌++◌, length, take, Option, Some, None, Result, Ok, Err, refl, sym, ap, subst, ◌∙◌, append_assoc, inl, inr, arith}
 use Rattle.std.specs.Prelude.{◌||◌}
 use Rattle.std.specs.Option.{option_to_list}
 use Rattle.std.specs.List.{All}
 use Rattle.std.proofs.lemmas.Bool.{cases_Bool, cases_lt}
 use Rattle.std.proofs.lemmas.List.Elements.{All-append, All-cons, All-nil}
-use Rattle.std.proofs.lemmas.List.{length-append, append-nil, take-append-drop}
+use Rattle.std.proofs.lemmas.List.{length-append, append-nil}
 use Rattle.vcd_reader.specs.Words.{is_white_space}
 use Rattle.vcd_reader.specs.Answer.{Answer}
 use Rattle.vcd_reader.specs.Codes.{Code}
@@ -13,7 +13,7 @@ use Rattle.vcd_reader.specs.Body.{BodyReading, Said, has_begun, last_said}
 use Rattle.vcd_reader.specs.Reading.{Body, body, fault, after_body_word}
 use Rattle.vcd_reader.specs.Text.{Stands, after, is_alone, is_open, HasFault, behind_a_word, in_a_word, EndsWithFault, in_the_last_word, cut_short}
 use Rattle.vcd_reader.specs.Holding.{IsReading, IsWord, IsSaid, Gives}
-use Rattle.vcd_reader.specs.BodyStanding.{BodyStands, HasSaid, SaysNext, EndsSaying, HasStepped, StepsOn, IsBehind, IsBehindAt, IsFaultAt, SaysNow}
+use Rattle.vcd_reader.specs.BodyStanding.{BodyStands, HasSaid, SaysNext, EndsSaying, HasStepped, StepsOn, IsBehind, IsBehindAt, IsFaultAt}
 use Rattle.vcd_reader.specs.Wanted.{IsUnwanted, is_wanted, item_by, saying_more}
 use Rattle.vcd_reader.specs.Hearing.{IsPassed, heard, hears, last_saying, said_by}
 use Rattle.vcd_reader.specs.Passing.{Passing}
@@ -32,7 +32,6 @@ use Rattle.vcd_reader.specs.declared.fault.DumpFault.{DumpFault}
 use Rattle.vcd_reader.specs.declared.fault.DumpFault.TheVariants.{At}
 use Rattle.vcd_reader.specs.declared.fault.DumpKind.TheVariants.{Truncated, DumpTooLong}
 use Rattle.vcd_reader.proofs.TextLemmas.{with_room, has_room, stands_behind, stands_byte, fault_stays}
-use Rattle.vcd_reader.proofs.HeaderStanding.{one_more}
 
 -- what a word says, if reading gave something
 pub record IsAnswered (f : Filter) (says : Says) (kept : ReadingRow) (answer : Answer Said) : Type 0 where
@@ -88,6 +87,8 @@ passing_on f b P Q step p = record { passed = p.passed; unheard = p.unheard; the
 heard_said : (f : Filter) (said says : Option Entry) (b next : Body) → says ≡ heard f said → HasSaid said b next → Passing f b (λ m. HasSaid says m next)
 heard_said f None says b next e h = nothing_passed f b (λ m. HasSaid says m next) (subst (λ (o : Option Entry). HasSaid o b next) (sym e) h)
 heard_said f (Some (entry.Time time)) says b next e h = nothing_passed f b (λ m. HasSaid says m next) (subst (λ (o : Option Entry). HasSaid o b next) (sym e) h)
+heard_said f (Some entry.Off) says b next e h = nothing_passed f b (λ m. HasSaid says m next) (subst (λ (o : Option Entry). HasSaid o b next) (sym e) h)
+heard_said f (Some (entry.On time)) says b next e h = nothing_passed f b (λ m. HasSaid says m next) (subst (λ (o : Option Entry). HasSaid o b next) (sym e) h)
 heard_said f (Some (entry.Value code value)) says b next e h =
     elim (cases_Bool (hears f code)) [
       | inl on ↦ nothing_passed f b (λ m. HasSaid says m next) (subst (λ (o : Option Entry). HasSaid o b next) (sym (rw on at e)) h)
@@ -110,12 +111,16 @@ passing_end f said says text b e s =
 none_passed : (passed : List Entry) → All (IsPassed filter_row.All) passed → passed ≡ []
 none_passed [] all = refl
 none_passed (entry.Time time ∷ passed) all = absurd (all 0 (entry.Time time) (omega arith))
+none_passed (entry.Off ∷ passed) all = absurd (all 0 entry.Off (omega arith))
+none_passed (entry.On time ∷ passed) all = absurd (all 0 (entry.On time) (omega arith))
 none_passed (entry.Value code value ∷ passed) all = absurd (let no : true ≡ false = all 0 (entry.Value code value) (omega arith) in cc)
 
 -- what is not heard where only some codes are wanted
 pub unwanted_of : (f : Filter) (wanted : List Bool) → ((code : ℕ) → hears f code ≡ is_wanted wanted code) → (e : Entry) → IsPassed f e → IsUnwanted wanted e
 unwanted_of f wanted same (entry.Time time) p = p
 unwanted_of f wanted same (entry.Value code value) p = sym (same code) ∙ p
+unwanted_of f wanted same entry.Off p = p
+unwanted_of f wanted same (entry.On time) p = p
 
 -- what was answered is itself
 pub heard_is : (a b : Heard) → (let x : Result Heard DumpFault = Ok a in let y : Result Heard DumpFault = Ok b in x ≡ y) → a ≡ b
@@ -314,4 +319,6 @@ pub last_steps : (says : Says) (reader : BodyReader) (text piece : List ℕ) (b 
 last_steps says.Nothing reader text [] b none at_end h = record { none = refl; next = h.next; ended = record { at_end = at_end; ends = h.ends }; said = h.said }
 last_steps (says.Time time) reader text [] b none at_end h = record { none = refl; next = h.next; ended = record { at_end = at_end; ends = h.ends }; said = h.said }
 last_steps says.Change reader text [] b none at_end h = record { none = refl; next = h.next; ended = record { at_end = at_end; ends = h.ends }; said = h.said }
+last_steps says.Off reader text [] b none at_end h = record { none = refl; next = h.next; ended = record { at_end = at_end; ends = h.ends }; said = h.said }
+last_steps (says.On time) reader text [] b none at_end h = record { none = refl; next = h.next; ended = record { at_end = at_end; ends = h.ends }; said = h.said }
 last_steps says reader text (byte ∷ piece) b none at_end h = absurd (omega (arith, none))

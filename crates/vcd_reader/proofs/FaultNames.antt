@@ -1,17 +1,19 @@
 -- No fault of a text is want of memory.
 use Rattle.std.proofs.Common.{ℕ, ◌-◌, Bool, true, false, cond, eqb, List, [], ◌∷◌, length, Option, Some, None, Ok, Err, subst}
-use Rattle.std.specs.Prelude.{bytes_eq, codes, not, ◌||◌}
+use Rattle.std.specs.Prelude.{bytes_eq, codes, not, ◌||◌, nat_le}
 use Rattle.cov_host.specs.Decimal.{decimal_value}
 use Rattle.vcd_reader.specs.Values.{is_digit}
 use Rattle.vcd_reader.specs.Words.{Word, words_of}
 use Rattle.vcd_reader.specs.Codes.{Code, code_of}
 use Rattle.vcd_reader.specs.Answer.{Answer, fault_if, unless}
-use Rattle.vcd_reader.specs.Body.{Begun, nothing, digits, passed, comment, Said, time_fault, change_of, change, saying, scalar, time_word, digits_word, new_time, is_passed_letter, are_digits, is_group_word, said, begins, dollar_word, first_word, behind_letter, word_after}
+use Rattle.vcd_reader.specs.Body.{Begun, nothing, digits, passed, comment, Said, time_fault, change_of, change, saying, scalar, time_word, digits_word, new_time, at_time, is_passed_letter, are_digits, is_group_word, most_stretches, with_stretch, goes_off, goes_on, said, begins, dollar_word, first_word, behind_letter, word_after}
 use Rattle.vcd_reader.specs.Header.{Declared, keyword_of, keyword_fault, variable_fault, field_fault, end_fault}
 use Rattle.vcd_reader.specs.Reading.{HeaderReading, Section, word_in, Body, Meaning, header, body, fault, after_header_word, after_body_word, stop_of, reading_on, with_word, meaning_after, start}
 use Rattle.vcd_reader.specs.Text.{Stands, word_at, HasFault, behind_a_word, in_a_word, EndsWithFault, in_the_last_word, cut_short}
 use Rattle.vcd_reader.specs.Named.{IsNamed}
 use Rattle.vcd_reader.specs.declared.entry.Entry.{Entry}
+use Rattle.vcd_reader.specs.declared.entry.Entry.TheVariants as entry
+use Rattle.vcd_reader.specs.declared.past.Past.{Past}
 use Rattle.vcd_reader.specs.declared.fault.DumpFault.{DumpFault}
 use Rattle.vcd_reader.specs.declared.fault.DumpFault.TheVariants.{At}
 use Rattle.vcd_reader.specs.declared.fault.DumpKind.{DumpKind}
@@ -68,37 +70,43 @@ change_of_named (Some code) word first at = unless_named _ _ (tested _ VectorToo
 change_named : (table : List Code) (word : List ℕ) (first : ℕ) (code : List ℕ) (at : ℕ) → AreNamed (change table word first code at)
 change_named table word first code at = stops_or _ LongCode at _ (change_of_named (code_of table code) word first at)
 
-saying_named : (last : Option ℕ) (answer : Answer (Option Entry)) → AreNamed answer → AreNamed (saying last answer)
-saying_named last answer (ok says) = ok _
-saying_named last answer (err f h) = err f h
+saying_named : (past : Past) (answer : Answer (Option Entry)) → AreNamed answer → AreNamed (saying past answer)
+saying_named past answer (ok says) = ok _
+saying_named past answer (err f h) = err f h
 
 scalar_named : (table : List Code) (digit : ℕ) (code : List ℕ) (at : ℕ) → AreNamed (scalar table digit code at)
 scalar_named table digit code at = stops_or _ BadChange at _ (change_named table (digit ∷ []) at code at)
 
-dollar_named : (word : List ℕ) (at : ℕ) (last : Option ℕ) → AreNamed (dollar_word word at last)
-dollar_named word at last =
-    gives_or (is_group_word word) (said None last) _ (gives_or (bytes_eq word (codes "$comment")) (begins last comment) _ (stops_or (bytes_eq word (codes "$dumpoff")) Gap at (Err (At BadChange at)) (err (At BadChange at) tt)))
+goes_on_named : (past : Past) (at : ℕ) → AreNamed (goes_on past at)
+goes_on_named past at =
+    let more : Answer Said = Ok (said (Some (entry.On past.last)) (with_stretch past)) in
+    gives_or past.is_on (said None past) _ (stops_or (nat_le most_stretches past.stretches) Gap at more (ok _))
 
-first_named : (table : List Code) (bytes : List ℕ) (at : ℕ) (last : Option ℕ) → AreNamed (first_word table bytes at last)
-first_named table [] at last = err (At BadChange at) tt
-first_named table (byte ∷ bytes) at last =
-    let time : AreNamed (time_word bytes at last) = saying_named (Some (decimal_value bytes)) (unless (time_fault last bytes at) (new_time last (decimal_value bytes))) (unless_named (time_fault last bytes at) (new_time last (decimal_value bytes)) (time_fault_named last bytes at)) in
-    let start : AreNamed (digits_word bytes (record { at = at; bytes = byte ∷ bytes }) last) = unless_named (fault_if (not (are_digits bytes)) BadChange at) (begins last (digits (record { at = at; bytes = byte ∷ bytes }))) (tested (not (are_digits bytes)) BadChange at) in
-    let change : AreNamed (saying last (scalar table byte bytes at)) = saying_named last (scalar table byte bytes at) (scalar_named table byte bytes at) in
-    let other = dollar_word (byte ∷ bytes) at last in
-    let real = cond (is_passed_letter byte) (Ok (begins last passed)) other in
-    let one = cond (is_digit byte) (saying last (scalar table byte bytes at)) real in
-    let vector = cond (eqb byte 98 || eqb byte 66) (digits_word bytes (record { at = at; bytes = byte ∷ bytes }) last) one in
-    either_answer (eqb byte 35) (time_word bytes at last) vector time
-    (either_answer (eqb byte 98 || eqb byte 66) (digits_word bytes (record { at = at; bytes = byte ∷ bytes }) last) one start
-    (either_answer (is_digit byte) (saying last (scalar table byte bytes at)) real change
-    (gives_or (is_passed_letter byte) (begins last passed) other (dollar_named (byte ∷ bytes) at last))))
+dollar_named : (word : List ℕ) (at : ℕ) (past : Past) → AreNamed (dollar_word word at past)
+dollar_named word at past =
+    gives_or (is_group_word word) (said None past) _ (gives_or (bytes_eq word (codes "$comment")) (begins past comment) _ (gives_or (bytes_eq word (codes "$dumpoff")) (goes_off past) _
+    (either_answer (bytes_eq word (codes "$dumpon")) (goes_on past at) (Err (At BadChange at)) (goes_on_named past at) (err (At BadChange at) tt))))
 
-word_named : (table : List Code) (begun : Begun) (word : Word) (last : Option ℕ) → AreNamed (word_after table begun word last)
-word_named table nothing word last = first_named table word.bytes word.at last
-word_named table (digits first) word last = saying_named last _ (change_named table (behind_letter first.bytes) first.at word.bytes word.at)
-word_named table passed word last = ok _
-word_named table comment word last = ok _
+first_named : (table : List Code) (bytes : List ℕ) (at : ℕ) (past : Past) → AreNamed (first_word table bytes at past)
+first_named table [] at past = err (At BadChange at) tt
+first_named table (byte ∷ bytes) at past =
+    let time : AreNamed (time_word bytes at past) = saying_named (at_time past (decimal_value bytes)) (unless (time_fault past.last bytes at) (new_time past.last (decimal_value bytes))) (unless_named (time_fault past.last bytes at) (new_time past.last (decimal_value bytes)) (time_fault_named past.last bytes at)) in
+    let start : AreNamed (digits_word bytes (record { at = at; bytes = byte ∷ bytes }) past) = unless_named (fault_if (not (are_digits bytes)) BadChange at) (begins past (digits (record { at = at; bytes = byte ∷ bytes }))) (tested (not (are_digits bytes)) BadChange at) in
+    let change : AreNamed (saying past (scalar table byte bytes at)) = saying_named past (scalar table byte bytes at) (scalar_named table byte bytes at) in
+    let other = dollar_word (byte ∷ bytes) at past in
+    let real = cond (is_passed_letter byte) (Ok (begins past passed)) other in
+    let one = cond (is_digit byte) (saying past (scalar table byte bytes at)) real in
+    let vector = cond (eqb byte 98 || eqb byte 66) (digits_word bytes (record { at = at; bytes = byte ∷ bytes }) past) one in
+    either_answer (eqb byte 35) (time_word bytes at past) vector time
+    (either_answer (eqb byte 98 || eqb byte 66) (digits_word bytes (record { at = at; bytes = byte ∷ bytes }) past) one start
+    (either_answer (is_digit byte) (saying past (scalar table byte bytes at)) real change
+    (gives_or (is_passed_letter byte) (begins past passed) other (dollar_named (byte ∷ bytes) at past))))
+
+word_named : (table : List Code) (begun : Begun) (word : Word) (past : Past) → AreNamed (word_after table begun word past)
+word_named table nothing word past = first_named table word.bytes word.at past
+word_named table (digits first) word past = saying_named past _ (change_named table (behind_letter first.bytes) first.at word.bytes word.at)
+word_named table passed word past = ok _
+word_named table comment word past = ok _
 
 -- ---- words of the header
 
@@ -150,7 +158,7 @@ after_body_named b answer (err f h) = of_fault f h
 
 reading_named : (means : Meaning) (word : Word) → MeansNamed means → MeansNamed (reading_on means word)
 reading_named means word (of_header reading) = after_header_named _ (header_named reading.declared reading.section word)
-reading_named means word (of_body b) = after_body_named b _ (word_named b.codes b.reading.begun word b.reading.last)
+reading_named means word (of_body b) = after_body_named b _ (word_named b.codes b.reading.begun word b.reading.past)
 reading_named means word (of_fault f h) = of_fault f h
 
 stop_named : (means : Meaning) → MeansNamed means → IsNamed (stop_of means)

@@ -17,6 +17,7 @@ pub mod Splitting
 pub mod FaultLaws
 pub mod FaultNames
 pub mod RisingTimes
+pub mod Turns
 pub mod Growing
 pub mod OneHeader
 pub mod BehindFaults

@@ -1,6 +1,6 @@
 -- The body behind a header.
 use Rattle.std.proofs.Common.{◌≡◌, ℕ, false, List, [], length, Option, None, refl, sym, subst}
-use Rattle.vcd_reader.specs.Body.{nothing}
+use Rattle.vcd_reader.specs.Body.{start_body}
 use Rattle.vcd_reader.specs.Reading.{Body, body, body_after}
 use Rattle.vcd_reader.specs.Text.{Stands}
 use Rattle.vcd_reader.specs.Views.{declared_of}
@@ -15,7 +15,7 @@ use Rattle.vcd_reader.specs.declared.progress.Progress.{Progress}
 use Rattle.vcd_reader.specs.declared.progress.Progress.TheVariants.{Going, Done, AtEnd}
 
 pub split_body : (progress : Progress) (h : HeaderReader) (r : BodyReader) (fault : Option DumpFault) (text : List ℕ) → is_going progress ≡ false → HeaderMeans progress h text → h.at ≡ length text → fault ≡ None → r.is_at_end ≡ is_at_end progress
-    → ((b : Body) → Stands text (body b) [] → h.at ≡ length text → h.sections.declared.codes ≡ b.codes → b.reading ≡ record { last = None; begun = nothing } → is_at_end progress ≡ false → BodyStands r text b)
+    → ((b : Body) → Stands text (body b) [] → h.at ≡ length text → h.sections.declared.codes ≡ b.codes → b.reading ≡ start_body → is_at_end progress ≡ false → BodyStands r text b)
     → Splits h.sections.declared.vars (record { reader = r; fault = fault }) text
 split_body Going h r fault text done means at sound at_end stands = absurd cc
 split_body Done h r fault text done means at sound at_end stands =

@@ -90,10 +90,10 @@ module _ (f : Filter) (old : BodyReader) (text piece : List ℕ) (b : Body) (fro
       ap₂ (λ (first second : List ℕ). (text ++ first) ++ second) (front_is piece front.digits (omega (arith, is.within))) (code_front piece front is).is ∙ further text piece (front.digits + 2) (front.code + 1)
 
   pub piece_said : (new : BodyReader) (is_heard : Bool) (says : Says) (digit_bytes code_bytes : List ℕ) (at used : ℕ) → digit_bytes ≡ drop 1 piece → code_bytes ≡ code → at ≡ old.at + front.digits + 2
-      → GivesChange f (Ok is_heard) new.reading.change (change old.codes (take front.digits digit_bytes) old.at code_bytes at) → says ≡ change_says is_heard → used ≡ front.digits + front.code + 3
-      → new.codes ≡ old.codes → new.at ≡ old.at + front.digits + front.code + 3 → new.word ≡ old.word → new.is_at_end ≡ old.is_at_end → new.reading.last ≡ old.reading.last → new.reading.begun ≡ old.reading.begun
+      → GivesChange f (Ok is_heard) new.reading.change (change old.codes (take front.digits digit_bytes) old.at code_bytes at) → says ≡ change_says old.reading.past.is_on is_heard → used ≡ front.digits + front.code + 3
+      → new.codes ≡ old.codes → new.at ≡ old.at + front.digits + front.code + 3 → new.word ≡ old.word → new.is_at_end ≡ old.is_at_end → new.reading.past ≡ old.reading.past → new.reading.begun ≡ old.reading.begun
       → Passing f b (SaysNext (said_by says new.reading) new (text ++ take used piece))
-  piece_said new is_heard says digit_bytes code_bytes at used digits_are code_is at_is gives heard all codes moved same going last kept =
+  piece_said new is_heard says digit_bytes code_bytes at used digits_are code_is at_is gives heard all codes moved same going before kept =
       let here : front.digits + 2 + (front.code + 1) ≡ used = omega (arith, all) in
       let n = word_long in
       let m = code_long in
@@ -101,10 +101,10 @@ module _ (f : Filter) (old : BodyReader) (text piece : List ℕ) (b : Body) (fro
       subst (λ (bytes : List ℕ). GivesChange f (Ok is_heard) new.reading.change (change old.codes word old.at bytes at)) code_is
       (subst (λ (bytes : List ℕ). GivesChange f (Ok is_heard) new.reading.change (change old.codes (take front.digits bytes) old.at code_bytes at)) digits_are gives) in
       let tail = code_front piece front is in
-      rw heard (subst (λ (t : List ℕ). Passing f b (SaysNext (said_by (change_says is_heard) new.reading) new t)) (whole_is ∙ ap (λ (k : ℕ). text ++ take k piece) here)
+      rw heard (subst (λ (t : List ℕ). Passing f b (SaysNext (said_by (change_says old.reading.past.is_on is_heard) new.reading) new t)) (whole_is ∙ ap (λ (k : ℕ). text ++ take k piece) here)
       (vector_said f old text word code (get_or piece 0 0) (get_or (drop front.digits (drop 1 piece)) 0 0) (get_or (drop (front.digits + 2) piece) front.code 0) b is.letter (omega (arith, n, is.words.some)) is.words.digits
       (letter_black (get_or piece 0 0) word is.letter (digits_black word is.words.digits)) is.words.code.space (omega (arith, m, is.words.code_some)) tail.black tail.white (omega (arith, n, m, room)) none rest s
-      new is_heard at (omega (arith, at_is, n)) gave codes (omega (arith, moved, n, m)) same going last kept))
+      new is_heard at (omega (arith, at_is, n)) gave codes (omega (arith, moved, n, m)) same going before kept))
 
   pub piece_fault : (kept : Change) (found : DumpFault) (digit_bytes code_bytes : List ℕ) (at : ℕ) → digit_bytes ≡ drop 1 piece → code_bytes ≡ code → at ≡ old.at + front.digits + 2
       → GivesChange f (Err found) kept (change old.codes (take front.digits digit_bytes) old.at code_bytes at) → IsBehind (text ++ piece) b found

@@ -9,7 +9,7 @@ use Rattle.vcd_reader.specs.Words.{Word, is_white_space, IsBlack}
 use Rattle.vcd_reader.specs.Values.{is_digit}
 use Rattle.vcd_reader.specs.Answer.{Answer}
 use Rattle.vcd_reader.specs.Codes.{Code}
-use Rattle.vcd_reader.specs.Body.{Begun, BodyReading, nothing, digits, passed, comment, behind_letter, begins, change, last_said, saying}
+use Rattle.vcd_reader.specs.Body.{Begun, BodyReading, nothing, digits, passed, comment, behind_letter, begins, change, last_said, recorded, saying}
 use Rattle.vcd_reader.specs.Reading.{Body, body, fault, after_body_word}
 use Rattle.vcd_reader.specs.Text.{Stands, after, behind_a_word}
 use Rattle.vcd_reader.specs.Holding.{GivesChange, IsBegun, IsWord}
@@ -21,6 +21,7 @@ use Rattle.vcd_reader.specs.declared.body_reader.BodyReader.{BodyReader}
 use Rattle.vcd_reader.specs.declared.word.Word.TheVariants as word_row
 use Rattle.vcd_reader.specs.declared.entry.Entry.{Entry}
 use Rattle.vcd_reader.specs.declared.filter.Filter.{Filter}
+use Rattle.vcd_reader.specs.declared.past.Past.{Past}
 use Rattle.vcd_reader.specs.declared.reading.Begun.TheVariants as begun_row
 use Rattle.vcd_reader.specs.declared.reading.Begun.{Begun as BegunRow}
 use Rattle.vcd_reader.specs.declared.reading.Change.{Change}
@@ -51,7 +52,7 @@ begun_nothing kept begun none is = nothing_of begun (subst (λ k. IsBegun k begu
 
 -- the digits of a change begin it
 vector_begins : (table : List Code) (reading : BodyReading) (at letter : ℕ) (word : List ℕ) → reading.begun ≡ nothing → is_vector_letter letter ≡ true → 0 < length word → list_all is_digit word ≡ true
-    → last_said table reading at (letter ∷ word) ≡ Ok (begins reading.last (digits (record { at = at; bytes = letter ∷ word })))
+    → last_said table reading at (letter ∷ word) ≡ Ok (begins reading.past (digits (record { at = at; bytes = letter ∷ word })))
 vector_begins table reading at letter word none is some each =
     let sign : (letter == 35) ≡ false = grind (arith, nat_tests, is) in
     let full : nat_lt 0 (length word) ≡ true = grind (arith, nat_tests, some) in
@@ -71,13 +72,15 @@ refused : (f : Filter) (kept : Change) (found : DumpFault) (answer : Answer (Opt
 refused f kept found (Ok says) gives = absurd gives
 refused f kept found (Err other) gives = ap (λ (g : DumpFault). let answer : Answer (Option Entry) = Err g in answer) (sym gives)
 
-said_of_change : (is_heard : Bool) (kept : ReadingRow) → said_by (change_says is_heard) kept ≡ change_by is_heard kept.change
-said_of_change true kept = refl
-said_of_change false kept = refl
+-- what is said of a change, where the dump is on, is the change, if it is heard
+said_of_change : (f : Filter) (is_on is_heard : Bool) (kept : ReadingRow) (says : Option Entry) → change_by is_heard kept.change ≡ heard f says → said_by (change_says is_on is_heard) kept ≡ heard f (recorded is_on says)
+said_of_change f true true kept says same = same
+said_of_change f true false kept says same = same
+said_of_change f false is_heard kept says same = refl
 
 -- the code of a change whose digits were read
 code_said : (table : List Code) (reading : BodyReading) (first : Word) (at : ℕ) (code : List ℕ) → 0 < length code
-    → last_said table (record { last = reading.last; begun = digits first }) at code ≡ saying reading.last (change table (behind_letter first.bytes) first.at code at)
+    → last_said table (record { past = reading.past; begun = digits first }) at code ≡ saying reading.past (change table (behind_letter first.bytes) first.at code at)
 code_said table reading first at [] some = absurd (omega (arith, some))
 code_said table reading first at (byte ∷ code) some = refl
 
@@ -89,7 +92,7 @@ module _ (f : Filter) (old : BodyReader) (text word code : List ℕ) (letter spa
   first = record { at = length text; bytes = letter ∷ word }
 
   abbrev begun : Body
-  begun = record b { items = b.items ++ []; reading = record { last = b.reading.last; begun = digits first } }
+  begun = record b { items = b.items ++ []; reading = record { past = b.reading.past; begun = digits first } }
 
   abbrev middle : List ℕ
   middle = text ++ ((letter ∷ word) ++ space ∷ [])
@@ -111,7 +114,7 @@ module _ (f : Filter) (old : BodyReader) (text word code : List ℕ) (letter spa
   code_stands : Stands (middle ++ code) (body begun) code
   code_stands = let at = s.at in stands_word middle [] code (body begun) middle_stands code_black (omega (arith, long, room))
 
-  code_means : after (body begun) (length (middle ++ code)) code ≡ after_body_word begun (saying b.reading.last (change b.codes word (length text) code (length middle)))
+  code_means : after (body begun) (length (middle ++ code)) code ≡ after_body_word begun (saying b.reading.past (change b.codes word (length text) code (length middle)))
   code_means = word_means middle code begun code_stands ∙ ap (after_body_word begun) (code_said b.codes b.reading first (length middle) code code_some)
 
   asked : (at : ℕ) → at ≡ old.at + length word + 2 → change old.codes word old.at code at ≡ change b.codes word (length text) code (length middle)
@@ -120,32 +123,35 @@ module _ (f : Filter) (old : BodyReader) (text word code : List ℕ) (letter spa
       ap (λ (table : List Code). change table word old.at code at) s.codes ∙ ap (λ (k : ℕ). change b.codes word k code at) s.at ∙ ap (λ (k : ℕ). change b.codes word (length text) code k) here
 
   pub vector_said : (new : BodyReader) (is_heard : Bool) (at : ℕ) → at ≡ old.at + length word + 2 → GivesChange f (Ok is_heard) new.reading.change (change old.codes word old.at code at)
-      → new.codes ≡ old.codes → new.at ≡ old.at + length word + length code + 3 → new.word ≡ old.word → new.is_at_end ≡ old.is_at_end → new.reading.last ≡ old.reading.last → new.reading.begun ≡ old.reading.begun
-      → Passing f b (SaysNext (said_by (change_says is_heard) new.reading) new (middle ++ (code ++ end ∷ [])))
-  vector_said new is_heard at is gives codes moved same going last kept =
+      → new.codes ≡ old.codes → new.at ≡ old.at + length word + length code + 3 → new.word ≡ old.word → new.is_at_end ≡ old.is_at_end → new.reading.past ≡ old.reading.past → new.reading.begun ≡ old.reading.begun
+      → Passing f b (SaysNext (said_by (change_says old.reading.past.is_on is_heard) new.reading) new (middle ++ (code ++ end ∷ [])))
+  vector_said new is_heard at is gives codes moved same going before kept =
       let a = changed f is_heard new.reading.change _ (subst (λ answer. GivesChange f (Ok is_heard) new.reading.change answer) (asked at is) gives) in
-      let next : Body = record begun { items = begun.items ++ option_to_list a.says; reading = record { last = b.reading.last; begun = nothing } } in
-      let means : after (body begun) (length (middle ++ code)) code ≡ body next = code_means ∙ ap (λ (answer : Answer (Option Entry)). after_body_word begun (saying b.reading.last answer)) a.is in
+      let says = recorded b.reading.past.is_on a.says in
+      let next : Body = record begun { items = begun.items ++ option_to_list says; reading = record { past = b.reading.past; begun = nothing } } in
+      let means : after (body begun) (length (middle ++ code)) code ≡ body next = code_means ∙ ap (λ (answer : Answer (Option Entry)). after_body_word begun (saying b.reading.past answer)) a.is in
       let here = s.at in
-      passing_next f a.says (said_by (change_says is_heard) new.reading) new (middle ++ (code ++ end ∷ [])) b (said_of_change is_heard new.reading ∙ a.same) (record {
+      let on : old.reading.past.is_on ≡ b.reading.past.is_on = ap (λ (past : Past). past.is_on) s.reading.past in
+      let heard_is : said_by (change_says old.reading.past.is_on is_heard) new.reading ≡ heard f says = said_of_change f old.reading.past.is_on is_heard new.reading a.says a.same ∙ ap (λ (is_on : Bool). heard f (recorded is_on a.says)) on in
+      passing_next f says (said_by (change_says old.reading.past.is_on is_heard) new.reading) new (middle ++ (code ++ end ∷ [])) b heard_is (record {
         next = next;
         stands = record {
           word = [];
           stands = word_stands middle code end begun next code_stands code_white (omega (arith, long, room)) means;
           at = omega (arith, moved, here, long, length-append middle (code ++ end ∷ []), length-append code (end ∷ []));
           codes = codes ∙ s.codes;
-          reading = record { last = last ∙ s.reading.last; begun = subst (λ k. IsBegun k nothing) (sym (kept ∙ rest)) tt };
+          reading = record { past = before ∙ s.reading.past; begun = subst (λ k. IsBegun k nothing) (sym (kept ∙ rest)) tt };
           kept = subst (λ w. IsWord w false []) (sym (same ∙ none)) refl;
           place = λ some. absurd (omega (arith, some));
           goes_on = going ∙ s.goes_on;
         };
-        said = record { items = ap (λ (items : List Entry). items ++ option_to_list a.says) (append-nil b.items); vars = refl };
+        said = record { items = ap (λ (items : List Entry). items ++ option_to_list says) (append-nil b.items); vars = refl };
       })
 
   pub vector_fault : (kept : Change) (found : DumpFault) (at : ℕ) → at ≡ old.at + length word + 2 → GivesChange f (Err found) kept (change old.codes word old.at code at) → IsBehind (middle ++ (code ++ end ∷ [])) b found
   vector_fault kept found at is gives =
       let e = refused f kept found _ (subst (λ answer. GivesChange f (Err found) kept answer) (asked at is) gives) in
-      let means : after (body begun) (length (middle ++ code)) code ≡ fault found = code_means ∙ ap (λ (answer : Answer (Option Entry)). after_body_word begun (saying b.reading.last answer)) e in
+      let means : after (body begun) (length (middle ++ code)) code ≡ fault found = code_means ∙ ap (λ (answer : Answer (Option Entry)). after_body_word begun (saying b.reading.past answer)) e in
       record {
         before = middle ++ code;
         byte = end;

@@ -1,6 +1,6 @@
 -- The body of a dump (IEEE 1364-2001 clauses 18.2.1 and 18.2.2): times, changes, and which word is a fault.
 -- Bytes are written as numbers: 35 number sign, 66 B, 82 R, 83 S, 98 b, 114 r, 115 s.
-use Rattle.std.specs.Prelude.{ℕ, ◌==◌, ◌^◌, nat_le, nat_lt, Bool, true, false, not, ◌&&◌, ◌||◌, bytes_eq, if◌then◌else◌, List, [], ◌∷◌, length, codes, Option, Some, None, Ok, Err}
+use Rattle.std.specs.Prelude.{ℕ, ◌+◌, ◌==◌, ◌^◌, nat_le, nat_lt, Bool, true, false, not, ◌&&◌, ◌||◌, bytes_eq, if◌then◌else◌, List, [], ◌∷◌, length, codes, Option, Some, None, Ok, Err}
 use Rattle.std.specs.List.{list_all}
 use Rattle.cov_host.specs.Decimal.{decimal_value}
 use Rattle.vcd_reader.specs.Words.{Word}
@@ -13,6 +13,7 @@ use Rattle.vcd_reader.specs.declared.fault.DumpFault.{DumpFault}
 use Rattle.vcd_reader.specs.declared.fault.DumpFault.TheVariants.{At}
 use Rattle.vcd_reader.specs.declared.entry.Entry.{Entry}
 use Rattle.vcd_reader.specs.declared.entry.Entry.TheVariants as entry
+use Rattle.vcd_reader.specs.declared.past.Past.{Past}
 
 -- what the words so far have begun: nothing, a change to the digits of a word, which has its code to come, a change
 -- that is passed over, which has its code to come too, or a comment
@@ -22,10 +23,17 @@ pub data Begun : Type 0 where
   passed : Begun
   comment : Begun
 
--- the last time, if there was one, and what has begun
+-- what came before, and what has begun
 pub record BodyReading : Type 0 where
-  pub last : Option ℕ
+  pub past : Past
   pub begun : Begun
+
+-- before the first word of the body: the dump is on, and this is its first stretch
+abbrev pub start_past : Past
+start_past = record { last = None; is_on = true; stretches = 1 }
+
+abbrev pub start_body : BodyReading
+start_body = record { past = start_past; begun = nothing }
 
 -- whether something has begun
 abbrev pub has_begun : Begun → Bool
@@ -39,12 +47,12 @@ abbrev pub Said : Type 0
 Said = Option Entry × BodyReading
 
 -- a whole word, after which nothing has begun
-abbrev pub said : Option Entry → Option ℕ → Said
-said says last = (says, record { last = last; begun = nothing })
+abbrev pub said : Option Entry → Past → Said
+said says past = (says, record { past = past; begun = nothing })
 
 -- a word with which something begins
-abbrev pub begins : Option ℕ → Begun → Said
-begins last begun = (None, record { last = last; begun = begun })
+abbrev pub begins : Past → Begun → Said
+begins past begun = (None, record { past = past; begun = begun })
 
 -- a time that is less than the last one
 abbrev pub is_back : Option ℕ → ℕ → Bool
@@ -76,10 +84,14 @@ change_of (Some code) word first at = unless (fault_if (nat_lt code.size (length
 abbrev pub change : List Code → List ℕ → ℕ → List ℕ → ℕ → Answer (Option Entry)
 change table word first code at = if nat_lt 8 (length code) then Err (At LongCode at) else change_of (code_of table code) word first at
 
+-- where the dump is off, a time or a change is read and dropped
+abbrev pub recorded : Bool → Option Entry → Option Entry
+recorded is_on says = if is_on then says else None
+
 -- an item that the last word of it says
-abbrev pub saying : Option ℕ → Answer (Option Entry) → Answer Said
-saying last (Ok says) = Ok (said says last)
-saying last (Err fault) = Err fault
+abbrev pub saying : Past → Answer (Option Entry) → Answer Said
+saying past (Ok says) = Ok (said (recorded past.is_on says) past)
+saying past (Err fault) = Err fault
 
 -- whether the digits can be assigned to a vector
 abbrev pub are_digits : List ℕ → Bool
@@ -87,14 +99,34 @@ are_digits word = nat_lt 0 (length word) && list_all is_digit word
 
 -- the words that begin or end a group of changes, and say nothing
 abbrev pub is_group_word : List ℕ → Bool
-is_group_word word = bytes_eq word (codes "$dumpvars") || bytes_eq word (codes "$dumpall") || bytes_eq word (codes "$dumpon") || bytes_eq word END
+is_group_word word = bytes_eq word (codes "$dumpvars") || bytes_eq word (codes "$dumpall") || bytes_eq word END
+
+-- how many stretches a dump can have
+abbrev pub most_stretches : ℕ
+most_stretches = 1024
+
+-- a stretch ends where the dump is on; else this means nothing
+abbrev pub goes_off : Past → Said
+goes_off past = said (if past.is_on then Some entry.Off else None) (record past { is_on = false })
+
+-- one stretch more begins
+abbrev pub with_stretch : Past → Past
+with_stretch past = record past { is_on = true; stretches = past.stretches + 1 }
+
+-- a stretch begins at the last time, if there was one, where the dump is off; else this means nothing
+abbrev pub goes_on : Past → ℕ → Answer Said
+goes_on past at =
+    if past.is_on then Ok (said None past)
+    else if nat_le most_stretches past.stretches then Err (At Gap at)
+    else Ok (said (Some (entry.On past.last)) (with_stretch past))
 
 -- a word with these bytes that should begin with a dollar sign
-abbrev pub dollar_word : List ℕ → ℕ → Option ℕ → Answer Said
-dollar_word word at last =
-    if is_group_word word then Ok (said None last)
-    else if bytes_eq word (codes "$comment") then Ok (begins last comment)
-    else if bytes_eq word (codes "$dumpoff") then Err (At Gap at)
+abbrev pub dollar_word : List ℕ → ℕ → Past → Answer Said
+dollar_word word at past =
+    if is_group_word word then Ok (said None past)
+    else if bytes_eq word (codes "$comment") then Ok (begins past comment)
+    else if bytes_eq word (codes "$dumpoff") then Ok (goes_off past)
+    else if bytes_eq word (codes "$dumpon") then goes_on past at
     else Err (At BadChange at)
 
 -- the letters of changes of real variables and of strings
@@ -109,23 +141,27 @@ scalar table digit code at = if length code == 0 then Err (At BadChange at) else
 abbrev pub is_marker : ℕ → Bool
 is_marker byte = byte == 35 || byte == 98 || byte == 66
 
+-- this is the last time
+abbrev pub at_time : Past → ℕ → Past
+at_time past time = record past { last = Some time }
+
 -- a time
-abbrev pub time_word : List ℕ → ℕ → Option ℕ → Answer Said
-time_word word at last = saying (Some (decimal_value word)) (unless (time_fault last word at) (new_time last (decimal_value word)))
+abbrev pub time_word : List ℕ → ℕ → Past → Answer Said
+time_word word at past = saying (at_time past (decimal_value word)) (unless (time_fault past.last word at) (new_time past.last (decimal_value word)))
 
 -- the digits of a change, of which the code is to come
-abbrev pub digits_word : List ℕ → Word → Option ℕ → Answer Said
-digits_word word first last = unless (fault_if (not (are_digits word)) BadChange first.at) (begins last (digits first))
+abbrev pub digits_word : List ℕ → Word → Past → Answer Said
+digits_word word first past = unless (fault_if (not (are_digits word)) BadChange first.at) (begins past (digits first))
 
 -- a word with these bytes, where nothing has begun
-abbrev pub first_word : List Code → List ℕ → ℕ → Option ℕ → Answer Said
-first_word table [] at last = Err (At BadChange at)
-first_word table (byte ∷ bytes) at last =
-    if byte == 35 then time_word bytes at last
-    else if byte == 98 || byte == 66 then digits_word bytes (record { at = at; bytes = byte ∷ bytes }) last
-    else if is_digit byte then saying last (scalar table byte bytes at)
-    else if is_passed_letter byte then Ok (begins last passed)
-    else dollar_word (byte ∷ bytes) at last
+abbrev pub first_word : List Code → List ℕ → ℕ → Past → Answer Said
+first_word table [] at past = Err (At BadChange at)
+first_word table (byte ∷ bytes) at past =
+    if byte == 35 then time_word bytes at past
+    else if byte == 98 || byte == 66 then digits_word bytes (record { at = at; bytes = byte ∷ bytes }) past
+    else if is_digit byte then saying past (scalar table byte bytes at)
+    else if is_passed_letter byte then Ok (begins past passed)
+    else dollar_word (byte ∷ bytes) at past
 
 -- the digits of a word after its letter
 abbrev pub behind_letter : List ℕ → List ℕ
@@ -133,15 +169,15 @@ behind_letter [] = []
 behind_letter (letter ∷ word) = word
 
 -- the next word, where this has begun
-abbrev pub word_after : List Code → Begun → Word → Option ℕ → Answer Said
-word_after table nothing word last = first_word table word.bytes word.at last
-word_after table (digits first) word last = saying last (change table (behind_letter first.bytes) first.at word.bytes word.at)
-word_after table passed word last = Ok (said None last)
-word_after table comment word last = Ok (if bytes_eq word.bytes END then said None last else begins last comment)
+abbrev pub word_after : List Code → Begun → Word → Past → Answer Said
+word_after table nothing word past = first_word table word.bytes word.at past
+word_after table (digits first) word past = saying past (change table (behind_letter first.bytes) first.at word.bytes word.at)
+word_after table passed word past = Ok (said None past)
+word_after table comment word past = Ok (if bytes_eq word.bytes END then said None past else begins past comment)
 
 -- the next word
 abbrev pub next_word : List Code → BodyReading → Word → Answer Said
-next_word table reading word = word_after table reading.begun word reading.last
+next_word table reading word = word_after table reading.begun word reading.past
 
 -- the next word has these bytes, or there is none
 abbrev pub last_said : List Code → BodyReading → ℕ → List ℕ → Answer Said

@@ -60,6 +60,8 @@ pub record IsUsedUp (used : ℕ) (reader : BodyReader) (text piece : List ℕ) (
 abbrev pub HasStepped : Item → ℕ → BodyReader → List ℕ → List ℕ → Body → Type 0
 HasStepped (item.Time time) used reader text piece b = HasEntry (entry.Time time) used reader text piece b
 HasStepped (item.Value code value) used reader text piece b = HasEntry (entry.Value code value) used reader text piece b
+HasStepped item.Off used reader text piece b = HasEntry entry.Off used reader text piece b
+HasStepped (item.On time) used reader text piece b = HasEntry (entry.On time) used reader text piece b
 HasStepped item.More used reader text piece b = IsUsedUp used reader text piece b
 HasStepped item.End used reader text piece b = ⊥
 
@@ -108,6 +110,8 @@ pub record SaysNoMore (used : ℕ) (reader : BodyReader) (text : List ℕ) (b : 
 abbrev pub EndsWith : Item → ℕ → BodyReader → List ℕ → Body → Type 0
 EndsWith (item.Time time) used reader text b = SaysLast (entry.Time time) used reader text b
 EndsWith (item.Value code value) used reader text b = SaysLast (entry.Value code value) used reader text b
+EndsWith item.Off used reader text b = SaysLast entry.Off used reader text b
+EndsWith (item.On time) used reader text b = SaysLast (entry.On time) used reader text b
 EndsWith item.More used reader text b = ⊥
 EndsWith item.End used reader text b = SaysNoMore used reader text b
 

@@ -23,6 +23,7 @@ use Rattle.vcd_reader.specs.declared.reading.Reading.{Reading as ReadingRow}
 use Rattle.vcd_reader.specs.declared.reading.Change.{Change}
 use Rattle.vcd_reader.specs.declared.says.Says.{Says}
 use Rattle.vcd_reader.specs.declared.entry.Entry.{Entry}
+use Rattle.vcd_reader.specs.declared.past.Past.{Past}
 use Rattle.vcd_reader.specs.declared.filter.Filter.{Filter}
 use Rattle.vcd_reader.specs.Hearing.{change_by, heard, said_by}
 
@@ -105,12 +106,12 @@ IsBegun begun_row.Comment comment = Unit {0}
 IsBegun _ _ = ⊥
 
 pub record IsReading (kept : ReadingRow) (reading : BodyReading) : Type 0 where
-  pub last : kept.last ≡ reading.last
+  pub past : kept.past ≡ reading.past
   pub begun : IsBegun kept.begun reading.begun
 
--- the last time, where nothing has begun
-abbrev pub IsAtRest : ReadingRow → Option ℕ → Type 0
-IsAtRest kept last = IsReading kept (record { last = last; begun = nothing })
+-- what came before, where nothing has begun
+abbrev pub IsAtRest : ReadingRow → Past → Type 0
+IsAtRest kept past = IsReading kept (record { past = past; begun = nothing })
 
 -- what was answered, and what is kept, is what is heard of a word that says this
 pub record IsSaid (f : Filter) (answered : Says) (kept : ReadingRow) (said : Said) : Type 0 where

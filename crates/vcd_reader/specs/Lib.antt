@@ -25,3 +25,4 @@ pub mod Named
 pub mod Times
 pub mod Vectors
 pub mod Dump
+pub mod Order

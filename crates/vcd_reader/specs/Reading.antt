@@ -4,7 +4,7 @@ use Rattle.std.specs.Option.{option_to_list}
 use Rattle.vcd_reader.specs.Words.{Word}
 use Rattle.vcd_reader.specs.Codes.{Code}
 use Rattle.vcd_reader.specs.Header.{END, Declared, keyword_of, keyword_fault, field_fault, end_fault, with_section}
-use Rattle.vcd_reader.specs.Body.{BodyReading, nothing, Said, next_word}
+use Rattle.vcd_reader.specs.Body.{BodyReading, Said, next_word, start_body}
 use Rattle.vcd_reader.specs.Answer.{Answer, unless}
 use Rattle.vcd_reader.specs.declared.vars.Var.{Var}
 use Rattle.vcd_reader.specs.declared.entry.Entry.{Entry}
@@ -59,7 +59,7 @@ abbrev pub last_word : HeaderReading → ℕ → List ℕ → Answer (Bool × He
 last_word reading end [] = Ok (false, reading)
 last_word reading end (byte ∷ bytes) = header_word reading (record { at = end - length (byte ∷ bytes); bytes = byte ∷ bytes })
 
--- a dump in its body: the header's variables and codes, the times and changes so far, and what reading is in the middle of
+-- a dump in its body: the header's variables and codes, what was said so far, and what reading is in the middle of
 pub record Body : Type 0 where
   pub vars : List Var
   pub codes : List Code
@@ -74,7 +74,7 @@ pub data Meaning : Type 0 where
 
 -- after the last word of the header
 abbrev pub body_after : Declared → Body
-body_after declared = record { vars = declared.vars; codes = declared.codes; items = []; reading = record { last = None; begun = nothing } }
+body_after declared = record { vars = declared.vars; codes = declared.codes; items = []; reading = start_body }
 
 abbrev pub after_header_word : Answer (Bool × HeaderReading) → Meaning
 after_header_word (Ok (last, reading)) = if last then body (body_after reading.declared) else header reading

@@ -17,6 +17,8 @@ is_wanted wanted code = slice_index_or wanted code false
 abbrev pub IsUnwanted : List Bool → Entry → Type 0
 IsUnwanted wanted (entry.Time time) = ⊥
 IsUnwanted wanted (entry.Value code value) = is_wanted wanted code ≡ false
+IsUnwanted wanted entry.Off = ⊥
+IsUnwanted wanted (entry.On time) = ⊥
 
 -- the body says so much more
 abbrev pub saying_more : Body → List Entry → Body
@@ -26,5 +28,7 @@ saying_more b more = record b { items = b.items ++ more }
 abbrev pub item_by : Saying → Vector → Item
 item_by (saying.Time time) value = item.Time time
 item_by (saying.Change code) value = item.Value code value
+item_by saying.Off value = item.Off
+item_by (saying.On time) value = item.On time
 item_by saying.More value = item.More
 item_by saying.End value = item.End

@@ -3,7 +3,7 @@ ghost use Rattle.std.specs.List.{position};
 ghost use Rattle.vcd_reader.specs.Words.{is_white_space as is_space, IsBlack};
 ghost use Rattle.vcd_reader.specs.declared.word.Word.TheVariants as word_row;
 ghost use Rattle.vcd_reader.specs.Reading.{Body as SpecBody, body};
-ghost use Rattle.vcd_reader.specs.Body.{nothing};
+ghost use Rattle.vcd_reader.specs.Body.{start_body};
 ghost use Rattle.vcd_reader.specs.Text.{Stands, EndsWithFault, is_alone, is_lone, is_one_digit};
 ghost use Rattle.vcd_reader.specs.Holding.{IsWord, IsSpelling};
 ghost use Rattle.vcd_reader.specs.Vectors.{IsVectorFront};
@@ -18,6 +18,7 @@ use crate::codes::Codes;
 use crate::element::{read_kept, read_lanes, read_whole};
 use crate::filter::Filter;
 use crate::letters::{is_digit, is_white_space, length_of_word};
+use crate::past::Past;
 use crate::reading::{Begun, Change, Reading};
 use crate::says::Says;
 use crate::spelling::Spelling;
@@ -58,13 +59,17 @@ impl BodyReader {
     pub(crate) fn new(codes: Codes, at: u64, is_at_end: bool) -> Self
         requires { at ≤ 67108865 }
         ensures at_end { result.is_at_end ≡ is_at_end }
-        ensures stands { (text : List ℕ) (b : SpecBody) → Stands text (body b) [] → at ≡ length text → codes ≡ b.codes → b.reading ≡ record { last = None; begun = nothing } → is_at_end ≡ false → BodyStands result text b }
+        ensures stands { (text : List ℕ) (b : SpecBody) → Stands text (body b) [] → at ≡ length text → codes ≡ b.codes → b.reading ≡ start_body → is_at_end ≡ false → BodyStands result text b }
     {
         BodyReader {
             codes,
             at,
             reading: Reading {
-                last: None,
+                past: Past {
+                    last: None,
+                    is_on: true,
+                    stretches: 1,
+                },
                 begun: Begun::Nothing,
                 change: Change::none(),
             },
@@ -107,6 +112,8 @@ impl BodyReader {
                 code,
                 value: self.reading.change.value,
             },
+            Saying::Off => Item::Off,
+            Saying::On(time) => Item::On(time),
             Saying::More => Item::More,
             Saying::End => Item::End,
         };
@@ -138,6 +145,18 @@ impl BodyReader {
                 Says::Change => {
                     return Ok(Heard {
                         saying: Saying::Change(self.reading.change.code),
+                        used,
+                    });
+                }
+                Says::Off => {
+                    return Ok(Heard {
+                        saying: Saying::Off,
+                        used,
+                    });
+                }
+                Says::On(time) => {
+                    return Ok(Heard {
+                        saying: Saying::On(time),
                         used,
                     });
                 }
@@ -217,7 +236,7 @@ impl BodyReader {
         )?;
         self.at = at + code.len() as u64 + 1;
         Ok(Front {
-            says: Says::change(is_heard),
+            says: Says::change(self.reading.past.is_on, is_heard),
             used: digits + code.len() + 3,
         })
     }

@@ -5,11 +5,12 @@ ghost use Rattle.std.specs.List.{list_all};
 ghost use Rattle.vcd_reader.specs.Values.{is_digit};
 ghost use Rattle.vcd_reader.specs.Codes.{Code as SpecCode};
 ghost use Rattle.vcd_reader.specs.Answer.{Answer, unless};
-ghost use Rattle.vcd_reader.specs.Body.{BodyReading, is_back, new_time, time_fault, time_word, digits_word, dollar_word, scalar, change, saying, first_word, next_word, last_said, is_passed_letter, is_group_word, begins, said, comment, is_marker, has_begun};
+ghost use Rattle.vcd_reader.specs.Body.{BodyReading, is_back, new_time, recorded, time_fault, time_word, digits_word, dollar_word, goes_off, goes_on, scalar, change, saying, first_word, next_word, last_said, is_passed_letter, is_group_word, begins, said, comment, is_marker, has_begun};
 ghost use Rattle.vcd_reader.specs.Hearing.{heard, said_by};
 ghost use Rattle.vcd_reader.specs.Holding.{IsTimeDigits, AreDigitsOf, IsSpelling, IsWord, IsReading, IsAtRest, Gives, GivesChange, IsSaid, is_other, has_no_marker};
 ghost use Rattle.vcd_reader.specs.declared.entry.Entry.{Entry};
 ghost use Rattle.vcd_reader.specs.declared.filter.Filter.{Filter as SpecFilter};
+ghost use Rattle.vcd_reader.specs.declared.past.Past.{Past as SpecPast};
 ghost use Rattle.vcd_reader.specs.declared.reading.Reading.{Reading as ReadingRow};
 ghost use Rattle.vcd_reader.specs.CodeViews.{value_for};
 ghost use Rattle.vcd_reader.specs.Header.{END};
@@ -20,6 +21,7 @@ use crate::digits::{Digits, bit_value};
 use crate::filter::Filter;
 use crate::keyword::END_WORD;
 use crate::letters::is_digit;
+use crate::past::Past;
 use crate::reading::{Begun, Change, Reading, VectorStart};
 use crate::says::Says;
 use crate::spelling::Spelling;
@@ -32,6 +34,9 @@ const WIDEST: u32 = 128;
 
 /// The longest identifier code, in bytes.
 const LONGEST_CODE: usize = 8;
+
+/// How many stretches a dump can have.
+const MOST_STRETCHES: u32 = 1024;
 
 const DUMP_VARS: &[u8] = b"$dumpvars";
 
@@ -75,7 +80,8 @@ pub(crate) fn read_whole(
 {
     match word {
         [digit, code @ ..] if is_digit(*digit) && !reading.has_begun() => {
-            saying(read_scalar(codes, filter, &mut reading.change, *digit, code, at))
+            let is_heard = read_scalar(codes, filter, &mut reading.change, *digit, code, at);
+            saying(is_heard, reading.past.is_on)
         }
         _ => read_any(codes, filter, reading, word, at),
     }
@@ -108,7 +114,7 @@ fn read_beginning(
     word: &[u8],
     at: u64,
 ) -> Result<Says, DumpFault>
-    ensures { (last : Option ℕ) → 0 < length word.now → IsAtRest reading.old last → Gives filter.entry result reading.new (first_word codes.now word.now at last) }
+    ensures { (past : SpecPast) → 0 < length word.now → IsAtRest reading.old past → Gives filter.entry result reading.new (first_word codes.now word.now at past) }
 {
     match word {
         [b'#', digits @ ..] => read_time(&TimeDigits::of(digits), reading, at),
@@ -119,11 +125,11 @@ fn read_beginning(
 
 /// A time.
 fn read_time(digits: &TimeDigits, reading: &mut Reading, at: u64) -> Result<Says, DumpFault>
-    ensures { (filter : SpecFilter) (word : List ℕ) (last : Option ℕ) → IsTimeDigits digits.now word → IsAtRest reading.old last → Gives filter result reading.new (time_word word at last) }
+    ensures { (filter : SpecFilter) (word : List ℕ) (past : SpecPast) → IsTimeDigits digits.now word → IsAtRest reading.old past → Gives filter result reading.new (time_word word at past) }
 {
-    check_time(digits, at, reading.last)?;
-    let says = new_time(reading.last, digits.value);
-    reading.last = Some(digits.value);
+    check_time(digits, at, reading.past.last)?;
+    let says = recorded_time(&reading.past, digits.value);
+    reading.past.last = Some(digits.value);
     Ok(says)
 }
 
@@ -149,7 +155,18 @@ fn is_back(last: Option<u64>, time: u64) -> bool
     }
 }
 
-/// A time is said where it is another one than the last.
+/// A time is said where the dump is on and it is another one than the last.
+fn recorded_time(past: &Past, time: u64) -> Says
+    ensures { (filter : SpecFilter) (reading : ReadingRow) → said_by result reading ≡ heard filter (recorded past.now.is_on (new_time past.now.last time)) }
+{
+    if past.is_on {
+        new_time(past.last, time)
+    } else {
+        Says::Nothing
+    }
+}
+
+/// A time is another one than the last.
 fn new_time(last: Option<u64>, time: u64) -> Says
     ensures { (filter : SpecFilter) (reading : ReadingRow) → said_by result reading ≡ heard filter (new_time last time) }
 {
@@ -167,7 +184,7 @@ fn new_time(last: Option<u64>, time: u64) -> Says
 
 /// The digits of a change, whose code is the next word.
 fn read_digits(digits: &Digits, reading: &mut Reading, at: u64) -> Result<Says, DumpFault>
-    ensures { (filter : SpecFilter) (word : List ℕ) (letter : ℕ) (last : Option ℕ) → AreDigitsOf digits.now word → IsAtRest reading.old last → Gives filter result reading.new (digits_word word (record { at = at; bytes = letter ∷ word }) last) }
+    ensures { (filter : SpecFilter) (word : List ℕ) (letter : ℕ) (past : SpecPast) → AreDigitsOf digits.now word → IsAtRest reading.old past → Gives filter result reading.new (digits_word word (record { at = at; bytes = letter ∷ word }) past) }
 {
     if digits.count == 0 || !digits.are_digits {
         return Err(DumpFault::at(DumpKind::BadChange, at));
@@ -179,13 +196,13 @@ fn read_digits(digits: &Digits, reading: &mut Reading, at: u64) -> Result<Says, 
     Ok(Says::Nothing)
 }
 
-/// What the last word of a change says, where this was answered.
+/// What the last word of a change says, where this was answered, and the dump is on or not.
 #[inline(always)]
-fn saying(is_heard: Result<bool, DumpFault>) -> Result<Says, DumpFault>
-    ensures { (filter : SpecFilter) (kept : ReadingRow) (last : Option ℕ) (answer : Answer (Option Entry)) → GivesChange filter is_heard kept.change answer → IsAtRest kept last → Gives filter result kept (saying last answer) }
+fn saying(is_heard: Result<bool, DumpFault>, is_on: bool) -> Result<Says, DumpFault>
+    ensures { (filter : SpecFilter) (kept : ReadingRow) (past : SpecPast) (answer : Answer (Option Entry)) → GivesChange filter is_heard kept.change answer → IsAtRest kept past → is_on ≡ past.is_on → Gives filter result kept (saying past answer) }
 {
     match is_heard {
-        Ok(is_heard) => Ok(Says::change(is_heard)),
+        Ok(is_heard) => Ok(Says::change(is_on, is_heard)),
         Err(fault) => Err(fault),
     }
 }
@@ -223,7 +240,7 @@ fn read_long(reading: &mut Reading, first: u8, at: u64) -> Result<Says, DumpFaul
 
 /// Reads a word of more than 8 bytes that begins with this byte, where nothing has begun.
 fn read_long_first(reading: &mut Reading, first: u8, at: u64) -> Result<Says, DumpFault>
-    ensures { (filter : SpecFilter) (table : List SpecCode) (bytes : List ℕ) (last : Option ℕ) → is_marker first ≡ false → 8 < length bytes → IsAtRest reading.old last → Gives filter result reading.new (first_word table (first ∷ bytes) at last) }
+    ensures { (filter : SpecFilter) (table : List SpecCode) (bytes : List ℕ) (past : SpecPast) → is_marker first ≡ false → 8 < length bytes → IsAtRest reading.old past → Gives filter result reading.new (first_word table (first ∷ bytes) at past) }
 {
     if is_digit(first) {
         Err(DumpFault::at(DumpKind::LongCode, at))
@@ -258,7 +275,7 @@ fn read_bytes(
                 at,
             );
             reading.begun = Begun::Nothing;
-            saying(is_heard)
+            saying(is_heard, reading.past.is_on)
         }
         Begun::Passed => {
             reading.begun = Begun::Nothing;
@@ -270,7 +287,7 @@ fn read_bytes(
 
 /// A word of a comment, which `$end` ends.
 fn read_comment(reading: &mut Reading, bytes: &[u8]) -> Says
-    ensures { (filter : SpecFilter) (last : Option ℕ) → IsReading reading.old (record { last = last; begun = comment }) → IsSaid filter result reading.new (if bytes_eq bytes.now END then said None last else begins last comment) }
+    ensures { (filter : SpecFilter) (past : SpecPast) → IsReading reading.old (record { past = past; begun = comment }) → IsSaid filter result reading.new (if bytes_eq bytes.now END then said None past else begins past comment) }
 {
     if bytes == END_WORD {
         reading.begun = Begun::Nothing;
@@ -286,13 +303,14 @@ fn read_first(
     bytes: &[u8],
     at: u64,
 ) -> Result<Says, DumpFault>
-    ensures { (last : Option ℕ) → has_no_marker bytes.now ≡ true → IsAtRest reading.old last → Gives filter.entry result reading.new (first_word codes.now bytes.now at last) }
+    ensures { (past : SpecPast) → has_no_marker bytes.now ≡ true → IsAtRest reading.old past → Gives filter.entry result reading.new (first_word codes.now bytes.now at past) }
 {
     let [first, code @ ..] = bytes else {
         return Err(DumpFault::at(DumpKind::BadChange, at));
     };
     if is_digit(*first) {
-        saying(read_scalar(codes, filter, &mut reading.change, *first, code, at))
+        let is_heard = read_scalar(codes, filter, &mut reading.change, *first, code, at);
+        saying(is_heard, reading.past.is_on)
     } else if is_passed_letter(*first) {
         reading.begun = Begun::Passed;
         Ok(Says::Nothing)
@@ -356,7 +374,7 @@ fn read_digit(
 
 /// A word that should begin with a dollar sign.
 fn read_dollar(reading: &mut Reading, bytes: &[u8], at: u64) -> Result<Says, DumpFault>
-    ensures { (filter : SpecFilter) (last : Option ℕ) → IsAtRest reading.old last → Gives filter result reading.new (dollar_word bytes.now at last) }
+    ensures { (filter : SpecFilter) (past : SpecPast) → IsAtRest reading.old past → Gives filter result reading.new (dollar_word bytes.now at past) }
 {
     if is_group_word(bytes) {
         Ok(Says::Nothing)
@@ -364,7 +382,9 @@ fn read_dollar(reading: &mut Reading, bytes: &[u8], at: u64) -> Result<Says, Dum
         reading.begun = Begun::Comment;
         Ok(Says::Nothing)
     } else if bytes == DUMP_OFF {
-        Err(DumpFault::at(DumpKind::Gap, at))
+        Ok(go_off(reading))
+    } else if bytes == DUMP_ON {
+        go_on(reading, at)
     } else {
         Err(DumpFault::at(DumpKind::BadChange, at))
     }
@@ -374,7 +394,31 @@ fn read_dollar(reading: &mut Reading, bytes: &[u8], at: u64) -> Result<Says, Dum
 fn is_group_word(bytes: &[u8]) -> bool
     ensures { result ≡ is_group_word bytes.now }
 {
-    bytes == DUMP_VARS || bytes == DUMP_ALL || bytes == DUMP_ON || bytes == END_WORD
+    bytes == DUMP_VARS || bytes == DUMP_ALL || bytes == END_WORD
+}
+
+/// The dump goes off. Where it is off, this means nothing.
+fn go_off(reading: &mut Reading) -> Says
+    ensures { (filter : SpecFilter) (past : SpecPast) → IsAtRest reading.old past → IsSaid filter result reading.new (goes_off past) }
+{
+    let is_on = reading.past.is_on;
+    reading.past.is_on = false;
+    if is_on { Says::Off } else { Says::Nothing }
+}
+
+/// The dump goes on, where that does not begin a stretch too many. Where it is on, this means nothing.
+fn go_on(reading: &mut Reading, at: u64) -> Result<Says, DumpFault>
+    ensures { (filter : SpecFilter) (past : SpecPast) → IsAtRest reading.old past → Gives filter result reading.new (goes_on past at) }
+{
+    if reading.past.is_on {
+        return Ok(Says::Nothing);
+    }
+    if reading.past.stretches >= MOST_STRETCHES {
+        return Err(DumpFault::at(DumpKind::Gap, at));
+    }
+    reading.past.is_on = true;
+    reading.past.stretches += 1;
+    Ok(Says::On(reading.past.last))
 }
 
 /// A change of a code to the value of digits.

@@ -22,7 +22,7 @@ pub enum DumpKind {
     Truncated = 6,
     /// A code of more than 8 bytes.
     LongCode = 7,
-    /// The recording of changes stops.
+    /// The dump goes on for the 1,024th time.
     Gap = 8,
     /// A scope inside 64 others.
     DeepScope = 9,

@@ -14,9 +14,13 @@ pub enum Fed {
 pub enum Item {
     /// A time that is greater than the one before, in the dump's units.
     Time(u64),
-    /// A change of a code to a value of the code's size. Changes before the first time belong to it, and of several
+    /// A change of a code to a value of the code's size. Changes before the first time of a stretch belong to it, and of several
     /// changes of one code between two times the last holds.
     Value { code: u32, value: Four },
+    /// The dump goes off: a stretch of it ends. What is recorded until it goes on again is not said.
+    Off,
+    /// The dump goes on: a stretch begins, whose first time is this one, or, where there was none yet, the next that is said.
+    On(Option<u64>),
     /// The piece is used up.
     More,
     /// The dump is at its end.
@@ -39,6 +43,10 @@ pub enum Saying {
     Time(u64),
     /// A change of a code to the value that the body keeps.
     Change(u32),
+    /// The dump goes off: a stretch of it ends. What is recorded until it goes on again is not said.
+    Off,
+    /// The dump goes on: a stretch begins, whose first time is this one, or, where there was none yet, the next that is said.
+    On(Option<u64>),
     /// The piece is used up.
     More,
     /// The dump is at its end.

@@ -7,6 +7,7 @@ ghost use Rattle.vcd_reader.specs.declared.fault.DumpFault.{DumpFault};
 ghost use Rattle.vcd_reader.specs.Times.{Rises};
 ghost use Rattle.vcd_reader.specs.Named.{IsNamed};
 ghost use Rattle.vcd_reader.specs.Dump.{GoesOn, SaysBody};
+ghost use Rattle.vcd_reader.specs.Order.{AreOrdered};
 ghost use Rattle.vcd_reader.specs.Example.{example_text, example_body};
 
 /// A text means one thing, is one dump, and has one first fault, which is not want of memory; and where it has a
@@ -21,9 +22,14 @@ pub fn one_reading()
     ensures no_fault_at_end { (text : List ℕ) (b : Body) (f : DumpFault) → EndsAs text b → EndsWithFault text f → ⊥ }
 {}
 
-/// The times of a dump rise.
+/// The times of a stretch rise, and none is below a time before it.
 pub fn rising_times()
     ensures { (text : List ℕ) (b : Body) → EndsAs text b → Rises None b.items }
+{}
+
+/// What a text says, at each place and at its end, has times that rise, goes off and on in turn, and has at most 1,024 stretches.
+pub fn ordered_entries()
+    ensures { (text : List ℕ) (b : Body) → SaysBody text b → AreOrdered b.items }
 {}
 
 /// The dump of an example is the one that is expected.

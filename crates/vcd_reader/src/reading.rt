@@ -1,6 +1,7 @@
 ghost use Rattle.std.specs.Prelude.{◌≡◌, ◌<◌};
 
 use crate::digits::Digits;
+use crate::past::Past;
 use four_state::Four;
 
 /// A change to some digits, whose code is to come.
@@ -42,8 +43,7 @@ impl Change {
 /// What the reader of the body is in the middle of.
 #[derive(Clone, Copy)]
 pub(crate) struct Reading {
-    /// The last time.
-    pub(crate) last: Option<u64>,
+    pub(crate) past: Past,
     pub(crate) begun: Begun,
     /// The last change that was heard.
     pub(crate) change: Change,

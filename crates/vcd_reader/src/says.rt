@@ -10,14 +10,18 @@ pub(crate) enum Says {
     Time(u64),
     /// The change that is kept.
     Change,
+    /// The dump goes off.
+    Off,
+    /// The dump goes on, at this time if there was one.
+    On(Option<u64>),
 }
 
 impl Says {
-    /// The change that is kept, or nothing.
-    pub(crate) fn change(is_heard: bool) -> Self
-        ensures { result ≡ change_says is_heard }
+    /// The change that is kept, or nothing. It is dropped where the dump is off.
+    pub(crate) fn change(is_on: bool, is_heard: bool) -> Self
+        ensures { result ≡ change_says is_on is_heard }
     {
-        if is_heard {
+        if is_on && is_heard {
             Says::Change
         } else {
             Says::Nothing
@@ -33,6 +37,8 @@ impl Says {
             Says::Nothing => Saying::End,
             Says::Time(time) => Saying::Time(time),
             Says::Change => Saying::Change(code),
+            Says::Off => Saying::Off,
+            Says::On(time) => Saying::On(time),
         }
     }
 }

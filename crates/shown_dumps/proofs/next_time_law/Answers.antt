@@ -1,5 +1,5 @@
-use Rattle.shown_dumps.proofs.Times.{next_time}
+use Rattle.shown_dumps.proofs.Gap.{next_time}
 use Rattle.shown_dumps.proofs.next_time_law.Goals as goal
 
 pub returns : goal.returns
-returns c codes entries more before last next rises ends = next_time codes entries more next rises before last ends
+returns c codes entries more before last next rises ends = next_time codes entries more before last next rises ends

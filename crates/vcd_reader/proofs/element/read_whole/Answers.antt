@@ -1,4 +1,5 @@
-use Rattle.std.proofs.Common.{◌≡◌, false, sym, ◌∙◌, arith}
+use Rattle.std.proofs.Common.{◌≡◌, false, sym, ap, ◌∙◌, arith}
+use Rattle.vcd_reader.specs.declared.past.Past.{Past}
 use Rattle.vcd_reader.proofs.ElementLemmas.{at_rest, rests, scalar_first, word_at_rest}
 use Rattle.vcd_reader.proofs.element.read_whole.Goals as goal
 
@@ -8,5 +9,5 @@ returns-in-len1-up c = λ spec r.
     let no : c.has_begun.result ≡ false = cc in
     let e = at_rest spec.begun (sym (c.has_begun.ensures spec r) ∙ no) in
     let rest = rests c.args.reading.now spec r e in
-    rw (word_at_rest c.args.codes.now spec c.args.at c.args.word.now e (omega (arith, some)) ∙ scalar_first c.args.codes.now c.args.word.now c.args.at spec.last some (sym c.is_digit.ensures ∙ c.if-is_digit.true))
-    (c.saying.ensures c.args.filter _ spec.last _ c.read_scalar.ensures (record { last = rest.last; begun = rest.begun }))
+    rw (word_at_rest c.args.codes.now spec c.args.at c.args.word.now e (omega (arith, some)) ∙ scalar_first c.args.codes.now c.args.word.now c.args.at spec.past some (sym c.is_digit.ensures ∙ c.if-is_digit.true))
+    (c.saying.ensures c.args.filter _ spec.past _ c.read_scalar-is_heard.ensures (record { past = rest.past; begun = rest.begun }) (ap (λ (past : Past). past.is_on) rest.past))

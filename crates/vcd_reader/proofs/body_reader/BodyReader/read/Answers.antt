@@ -64,6 +64,34 @@ returns-in-Change-clause-ok c = λ text b s.
       };
     }
 
+pub returns-in-Off-clause-ok : goal.returns-in-Off-clause-ok
+returns-in-Off-clause-ok c = λ text b s.
+    let at = (goal.at.returns-in-Off-clause-ok c).In_ok-front in
+    let p = said at text b s in
+    record {
+      passed = p.passed;
+      unheard = p.unheard;
+      then = record {
+        at_least = omega (arith, c.in_ok-front.ensures.some);
+        at_most = within at;
+        next = subst (λ says. SaysNext (said_by says c.read_front.new.self.reading) c.read_front.new.self (text ++ take (c.loop-used.used + c.in_ok-front.front.used) c.args.piece.now) (saying_more b p.passed)) c.in-Off.is p.then;
+      };
+    }
+
+pub returns-in-On-clause-ok : goal.returns-in-On-clause-ok
+returns-in-On-clause-ok c = λ text b s.
+    let at = (goal.at.returns-in-On-clause-ok c).In_ok-front in
+    let p = said at text b s in
+    record {
+      passed = p.passed;
+      unheard = p.unheard;
+      then = record {
+        at_least = omega (arith, c.in_ok-front.ensures.some);
+        at_most = within at;
+        next = subst (λ says. SaysNext (said_by says c.read_front.new.self.reading) c.read_front.new.self (text ++ take (c.loop-used.used + c.in_ok-front.front.used) c.args.piece.now) (saying_more b p.passed)) c.in-On.is p.then;
+      };
+    }
+
 pub loop-used-preserved : goal.loop-used-preserved
 loop-used-preserved c =
     let at = (goal.at.loop-used-preserved c).In_ok-front in
