@@ -6,7 +6,6 @@ use Rattle.std.specs.List.{list_all, list_any}
 use Rattle.std.specs.Prelude.{slice_index_or}
 use Rattle.event_machine.specs.Cell.{Cell, Values, Write, WritesCell, put_all}
 use Rattle.event_machine.specs.Machine.{wakes}
-use Rattle.event_machine.specs.Event.{event_writes}
 use Rattle.event_machine.specs.Habit.{Habit}
 use Rattle.four_state.specs.declared.bit.Bit.{Bit}
 use Rattle.design_model.specs.Tree.{Process, Stmt, assign, clocked, comb}

@@ -30,7 +30,8 @@ use Rattle.design_model.proofs.ReadThings.{execute_things}
 use Rattle.design_model.proofs.Sound.{IsSeen, clean_moves, entry_agrees, told_step}
 use Rattle.design_model.proofs.StepLaws.{StepLaws}
 use Rattle.design_model.proofs.Times.{StepTo}
-use Rattle.design_model.proofs.Toggles.{end_values, no_window_at, split_steps, start_values, window_shown_at}
+use Rattle.design_model.proofs.Stretches.{no_window_at, window_shown_at}
+use Rattle.design_model.proofs.Toggles.{end_values, split_steps, start_values}
 use Rattle.design_model.proofs.VisitedOpen.{visited_open}
 
 no_level : (x : Process) → IsClocked x → (y : ℕ) → is_level x y ≡ false
@@ -55,7 +56,7 @@ step_of d h now s (y ∷ before) x later steps = step_of d h y.time (step_start 
 
 module _ (d : Design) (lawful : IsLawfulDesign d) (h : Habit) (laws : StepLaws (machine d) h) (dump : BoundDump) (fits : IsDumpOf d dump) (t : ℕ) (window : IsWindow dump (suc t)) (r : Run) (is_run : IsRun d h r) (shows : Shows d dump r) where
   shown : IsShown dump t × IsShown dump (suc t)
-  shown = window_shown_at dump.times t window
+  shown = window_shown_at dump.stretches t window
 
   up_to : ShowsUpTo d dump r (suc t)
   up_to = record { starts = shows.starts; shows = λ u seen before. shows.shows u seen }
@@ -181,7 +182,7 @@ module _ (d : Design) (lawful : IsLawfulDesign d) (h : Habit) (laws : StepLaws (
       is_not_clean wakes unclean = none wakes.0.thing (of_block p window is_block (inl (wakes, inl unclean)) (not_clean (record { event = wakes.0; of_signal = refl; can_wake = wakes.1; not_clean = unclean })))
 
 pub clocked_decided_law : (d : Design) (h : Habit) → IsLawfulDesign d → StepLaws (machine d) h → ClockedDecidedLaw d h
-clocked_decided_law d h lawful laws x point blocks dump r q fits r_run q_run r_shows q_shows zero window none hit other = no_window_at dump.times window
+clocked_decided_law d h lawful laws x point blocks dump r q fits r_run q_run r_shows q_shows zero window none hit other = no_window_at dump.stretches window
 clocked_decided_law d h lawful laws x point blocks dump r q fits r_run q_run r_shows q_shows (suc t) window none (inr a) other = no_time_hit d x point r (suc t) a.1
 clocked_decided_law d h lawful laws x point blocks dump r q fits r_run q_run r_shows q_shows (suc t) window none (inl k) other =
     let o = hit_visit d r k.0 x point k.2 in

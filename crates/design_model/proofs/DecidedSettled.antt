@@ -45,7 +45,8 @@ use Rattle.design_model.proofs.SettledHits.{settling_level}
 use Rattle.design_model.proofs.Sound.{IsSeen, cells_eq, pick_cell, step_or}
 use Rattle.design_model.proofs.StepLaws.{StepLaws}
 use Rattle.design_model.proofs.Times.{StepTo}
-use Rattle.design_model.proofs.Toggles.{end_values, no_window_at, split_steps, start_values, window_shown_at}
+use Rattle.design_model.proofs.Stretches.{no_window_at, window_shown_at}
+use Rattle.design_model.proofs.Toggles.{end_values, split_steps, start_values}
 use Rattle.design_model.proofs.WithinMap.{execution_same}
 use Rattle.design_model.proofs.Untouched.{untouched}
 use Rattle.design_model.proofs.VisitedOpen.{visited_open}
@@ -146,7 +147,7 @@ outer_within d u w Q none (reads (a_word m i) false ∷ xs) a b = absurd (none m
 -- a run that shows the dump, over a window time
 module _ (d : Design) (lawful : IsLawfulDesign d) (h : Habit) (laws : StepLaws (machine d) h) (dump : BoundDump) (fits : IsDumpOf d dump) (t : ℕ) (window : IsWindow dump (suc t)) (r : Run) (is_run : IsRun d h r) (shows : Shows d dump r) where
   shown : IsShown dump t × IsShown dump (suc t)
-  shown = window_shown_at dump.times t window
+  shown = window_shown_at dump.stretches t window
 
   up_to : ShowsUpTo d dump r (suc t)
   up_to = record { starts = shows.starts; shows = λ u seen before. shows.shows u seen }
@@ -356,7 +357,7 @@ module _ (d : Design) (lawful : IsLawfulDesign d) (h : Habit) (laws : StepLaws (
       changes e = counts.1.2 (ap (λ f. f counts.1.0) (start_values d h r r_run k t at) ∙ e ∙ ap (λ f. f counts.1.0) (sym (end_values d h r r_run k (suc t) at)))
 
 pub settled_decided_law : (d : Design) (h : Habit) → IsLawfulDesign d → StepLaws (machine d) h → SettledDecidedLaw d h
-settled_decided_law d h lawful laws x point blocks dump r q fits r_run q_run r_shows q_shows zero window none hit other = no_window_at dump.times window
+settled_decided_law d h lawful laws x point blocks dump r q fits r_run q_run r_shows q_shows zero window none hit other = no_window_at dump.stretches window
 settled_decided_law d h lawful laws x point blocks dump r q fits r_run q_run r_shows q_shows (suc t) window none (inr a) other = no_time_hit d x point r (suc t) a.1
 settled_decided_law d h lawful laws x point blocks dump r q fits r_run q_run r_shows q_shows (suc t) window none (inl k) other =
     let o = hit_visit d r k.0 x point k.2 in

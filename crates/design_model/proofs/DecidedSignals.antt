@@ -20,7 +20,8 @@ use Rattle.design_model.proofs.Hits.{step_here}
 use Rattle.design_model.proofs.Sound.{IsSeen, cells_eq, pick_cell, step_or, told_step}
 use Rattle.design_model.proofs.StepLaws.{StepLaws}
 use Rattle.design_model.proofs.Times.{StepTo}
-use Rattle.design_model.proofs.Toggles.{end_values, no_window_at, start_values, toggle_cell_in, window_shown_at}
+use Rattle.design_model.proofs.Stretches.{no_window_at, window_shown_at}
+use Rattle.design_model.proofs.Toggles.{end_values, start_values, toggle_cell_in}
 
 zero_one : Zero ≡ One → ⊥
 zero_one e = cc
@@ -31,7 +32,7 @@ one_zero e = cc
 -- a run that shows the dump, over a window time
 module _ (d : Design) (lawful : IsLawfulDesign d) (h : Habit) (laws : StepLaws (machine d) h) (dump : BoundDump) (fits : IsDumpOf d dump) (t : ℕ) (window : IsWindow dump (suc t)) (r : Run) (is_run : IsRun d h r) (shows : Shows d dump r) where
   shown : IsShown dump t × IsShown dump (suc t)
-  shown = window_shown_at dump.times t window
+  shown = window_shown_at dump.stretches t window
 
   up_to : ShowsUpTo d dump r (suc t)
   up_to = record { starts = shows.starts; shows = λ u seen before. shows.shows u seen }
@@ -185,7 +186,7 @@ module _ (d : Design) (lawful : IsLawfulDesign d) (h : Habit) (laws : StepLaws (
       unmoved (inr a) = not_may (inl a.0)
 
   pub decided_at : (t : ℕ) → IsWindow dump t → ((s : ℕ) → IsInDoubt d h dump x t s → ⊥) → IsHitAt d dump r x t → (IsHitAt d dump q x t → ⊥) → ⊥
-  decided_at zero window none hit other = no_window_at dump.times window
+  decided_at zero window none hit other = no_window_at dump.stretches window
   decided_at (suc t) window none hit other = decided t window none hit other
 
 pub signal_decided_law : (d : Design) (h : Habit) → IsLawfulDesign d → StepLaws (machine d) h → SignalDecidedLaw d h

@@ -4,7 +4,6 @@ use Rattle.std.proofs.Common.{◌≡◌, ◌≢◌, inl, inr, ℕ, zero, suc, �
 use Rattle.std.proofs.lemmas.Bool.{and_parts, leb-true}
 use Rattle.event_machine.specs.Cell.{Cell}
 use Rattle.event_machine.specs.Machine.{Machine, wakes}
-use Rattle.event_machine.specs.Event.{event_writes}
 use Rattle.event_machine.specs.Habit.{Habit}
 use Rattle.event_machine.specs.Told.{Told}
 use Rattle.event_machine.specs.Early.{IsEarly}
@@ -15,7 +14,7 @@ use Rattle.design_model.specs.Mentions.{body_mentions}
 use Rattle.design_model.specs.Execution.{Visit, execution, execution_start, reads}
 use Rattle.design_model.specs.Reads.{HasValue, PartialMap, ReadsFrom, UpToOutside}
 use Rattle.design_model.specs.Machine.{machine}
-use Rattle.design_model.specs.Shows.{BindsSignals, BoundDump, IsShown, IsShownOf, IsWindow, IsWindowOf}
+use Rattle.design_model.specs.Shows.{BindsSignals, BoundDump, IsShown, IsWindow}
 use Rattle.design_model.specs.Points.{IsBlock, Point, arc_point, line_point, logic_point, state_point, toggle_point, word_point}
 use Rattle.design_model.specs.MayMove.{IsSingleAt, told_at}
 use Rattle.design_model.specs.Clear.{clear, clear_before, of_dump}
@@ -25,6 +24,7 @@ use Rattle.design_model.specs.Lawful.{is_signal}
 use Rattle.design_model.specs.Laws.{BoundClearLaw, BoundPointLaw, DefinitenessLaw, IsDefinite, IsLineOrLogic}
 use Rattle.design_model.specs.ExampleParts.{at, counted}
 use Rattle.design_model.proofs.Mentions.{AllReads, IsReadOf, execute_reads}
+use Rattle.design_model.proofs.Stretches.{shown_before, shown_then}
 
 -- what is visited as a read, before the first read outside or as it, is mentioned
 read_owner : (Q : ℕ → Type 0) (K : PartialMap) (x : Thing) (xs : List Visit) → AllReads Q xs → UpToOutside K (reads x false) xs → Q (owner x)
@@ -45,11 +45,6 @@ pub bound_is_clear : (d : Design) (h : Habit) (dump : BoundDump) (t s : ℕ) →
 bound_is_clear d h dump zero s shown bound is_signal = (signal_bits d (dump.values zero) s, (1, of_dump s (signal_bits d (dump.values zero) s) shown bound is_signal refl))
 bound_is_clear d h dump (suc t) s shown bound is_signal = (signal_bits d (dump.values (suc t)) s, (1, of_dump s (signal_bits d (dump.values (suc t)) s) shown bound is_signal refl))
 
--- the moment before a window time is shown
-shown_before : (times : List ℕ) (t : ℕ) → IsWindowOf times t → IsShownOf times (t - 1)
-shown_before [] t window = window
-shown_before (u ∷ us) t window = (omega (arith, window.0), omega (arith, window.1))
-
 early_apart : {V : Type 0} (m : Machine V) (t : Told V) (single : Cell → Type 0) (h : Habit) (b : ℕ) (c : Cell) (x : ℕ) → IsEarly m t single h b c x → x ≢ c.thing
 early_apart m t single h b c x (IsEarly.of_input d moving free other) = other
 early_apart m t single h b c x (IsEarly.of_trigger p d may_wake not_b writes other) = other
@@ -65,7 +60,7 @@ module _ (d : Design) (h : Habit) (dump : BoundDump) (binds : BindsSignals d dum
   -- a thing of the design that is mentioned is clear at the start of a window time
   mentioned_clear : (t : ℕ) → IsWindow dump t → (x : Thing) → IsThing d x → body_mentions (owner x) (body_at d p) ≡ true → HasValue (clear_before d h dump t) x
   mentioned_clear t window (a_signal s) thing mentioned =
-      bound_is_clear d h dump (t - 1) s (shown_before dump.times t window) (definite.all_bound s mentioned) thing
+      bound_is_clear d h dump (t - 1) s (shown_before dump.stretches t window) (definite.all_bound s mentioned) thing
   mentioned_clear t window (a_word m i) thing mentioned =
       let below : m < length d.signals = binds m (definite.all_bound m mentioned) in
       let above : length d.signals ≤ m = leb-true (length d.signals) m (and_parts (nat_le (length d.signals) m) _ thing.0).0 in
@@ -113,15 +108,10 @@ one_signal (state_point i name r state value) s q on other = sym on ∙ other
 one_signal (arc_point i name r from to old new) s q on other = sym on ∙ other
 one_signal (word_point m i write) s q on other = absurd on
 
--- a window time is shown
-shown_then : (times : List ℕ) (t : ℕ) → IsWindowOf times t → IsShownOf times t
-shown_then [] t window = window
-shown_then (u ∷ us) t window = (omega (arith, window.0), window.1)
-
 -- a bound signal is clear at the start and the end of a window time
 bound_not_unclear : (d : Design) (h : Habit) (dump : BoundDump) (t s : ℕ) → IsWindow dump t → dump.bound s ≡ true → s < length d.signals → IsUnclear d h dump t (a_signal s) → ⊥
-bound_not_unclear d h dump t s window bound is_signal (inl at_start) = at_start (bound_is_clear d h dump (t - 1) s (shown_before dump.times t window) bound is_signal)
-bound_not_unclear d h dump t s window bound is_signal (inr at_end) = at_end (bound_is_clear d h dump t s (shown_then dump.times t window) bound is_signal)
+bound_not_unclear d h dump t s window bound is_signal (inl at_start) = at_start (bound_is_clear d h dump (t - 1) s (shown_before dump.stretches t window) bound is_signal)
+bound_not_unclear d h dump t s window bound is_signal (inr at_end) = at_end (bound_is_clear d h dump t s (shown_then dump.stretches t window) bound is_signal)
 
 pub bound_point_law : (d : Design) (h : Habit) → BoundPointLaw d h
 bound_point_law d h dump x s on is_signal bound t q (of_block p window block_is is_open doubt) = no_block d x s p on block_is

@@ -4,9 +4,9 @@ use Rattle.std.proofs.lemmas.Bool.{or_cases, eqb-true, cases_eq, false≢true}
 use Rattle.event_machine.specs.Habit.{Free}
 use Rattle.event_machine.specs.MayMove.{MayMove}
 use Rattle.four_state.specs.declared.bit.Bit.TheVariants.{One}
-use Rattle.design_model.specs.Design.{In, body_at, cell}
+use Rattle.design_model.specs.Design.{body_at, cell}
 use Rattle.design_model.specs.Mentions.{body_mentions}
-use Rattle.design_model.specs.Shows.{IsWindow}
+use Rattle.design_model.specs.Shows.{IsListed, IsWindow}
 use Rattle.design_model.specs.MayMove.{CanWakeSome, IsCleanAt, MayMoveAt}
 use Rattle.design_model.specs.Early.{IsEarlyAt}
 use Rattle.design_model.specs.Laws.{IsDefinite}
@@ -15,7 +15,7 @@ use Rattle.design_model.proofs.FlipFlopDoubt.{input_bound, is_clean, none_early,
 use Rattle.design_model.proofs.FlipFlopLawful.{flip_flop_fits}
 
 -- within the window the dump lists 5 alone
-unlisted : (t : ℕ) → suc t < 10 → suc t ≢ 5 → In (suc t) steady_dump.times → ⊥
+unlisted : (t : ℕ) → suc t < 10 → suc t ≢ 5 → IsListed steady_dump (suc t) → ⊥
 unlisted t below other (inl is) = absurd (omega (arith, is))
 unlisted t below other (inr (inl is)) = other (sym is)
 unlisted t below other (inr (inr (inl is))) = absurd (omega (arith, is, below))

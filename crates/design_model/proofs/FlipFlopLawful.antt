@@ -12,7 +12,7 @@ use Rattle.design_model.specs.Mentions.{body_assigns, body_blocks, body_queues}
 use Rattle.design_model.specs.Numbered.{LineAt, NodeAt, lines_of, nodes_of}
 use Rattle.design_model.specs.Machine.{events_of, machine}
 use Rattle.design_model.specs.Run.{IsRun, Run}
-use Rattle.design_model.specs.Shows.{IsDumpOf, Shows}
+use Rattle.design_model.specs.Shows.{IsDumpOf, IsListed, Shows}
 use Rattle.design_model.specs.Points.{IsHit}
 use Rattle.design_model.specs.Early.{IsEarlyAt}
 use Rattle.design_model.specs.Shape.{is_body}
@@ -141,13 +141,13 @@ values_by a b c t e f = rw (e, f) refl
 early_same : (a : Bit) (t : ℕ) → t < 4 → (flip_flop_dump a).values (suc t) ≡ (flip_flop_dump a).values t
 early_same a t h = values_by a false false (suc t) (lt-leb 10 (suc t) (omega arith)) (lt-leb 5 (suc t) (omega arith)) ∙ sym (values_by a false false t (lt-leb 10 t (omega arith)) (lt-leb 5 t (omega arith)))
 
-mid : (a : Bit) (t : ℕ) → 4 ≤ t → t < 9 → (In (suc t) (flip_flop_dump a).times → ⊥) → (flip_flop_dump a).values (suc t) ≡ (flip_flop_dump a).values t
+mid : (a : Bit) (t : ℕ) → 4 ≤ t → t < 9 → (IsListed (flip_flop_dump a) (suc t) → ⊥) → (flip_flop_dump a).values (suc t) ≡ (flip_flop_dump a).values t
 mid a t from to none = ⊎_elim (λ is. absurd (none (inr (inl (omega (arith, is)))))) (λ over. values_by a false true (suc t) (lt-leb 10 (suc t) (omega arith)) (le-leb 5 (suc t) (omega arith)) ∙ sym (values_by a false true t (lt-leb 10 t (omega arith)) (le-leb 5 t (omega (arith, over))))) (least t from)
   where
     least : (t : ℕ) → 4 ≤ t → (t ≡ 4) ⊎ (5 ≤ t)
     least t h = ⊎_elim (λ u. inl (omega (arith, u, h))) (λ o. inr o) (cases_lt t 5)
 
-late : (a : Bit) (t : ℕ) → 9 ≤ t → (In (suc t) (flip_flop_dump a).times → ⊥) → (flip_flop_dump a).values (suc t) ≡ (flip_flop_dump a).values t
+late : (a : Bit) (t : ℕ) → 9 ≤ t → (IsListed (flip_flop_dump a) (suc t) → ⊥) → (flip_flop_dump a).values (suc t) ≡ (flip_flop_dump a).values t
 late a t from none = ⊎_elim (λ is. absurd (none (inr (inr (inl (omega (arith, is))))))) (λ over. values_by a true true (suc t) (le-leb 10 (suc t) (omega (arith, over))) (le-leb 5 (suc t) (omega (arith, over))) ∙ sym (values_by a true true t (le-leb 10 t over) (le-leb 5 t (omega (arith, over))))) (least t from)
   where
     least : (t : ℕ) → 9 ≤ t → (t ≡ 9) ⊎ (10 ≤ t)
@@ -156,7 +156,7 @@ late a t from none = ⊎_elim (λ is. absurd (none (inr (inr (inl (omega (arith,
 pub flip_flop_fits : (a : Bit) → IsDumpOf flip_flop (flip_flop_dump a)
 flip_flop_fits a = record { rising = (lit< tt, (lit< tt, tt)); signals = λ s b. ltb-true s 3 b; inputs = λ c i. input_bound c.thing c.place i; stays = stays }
   where
-    stays : (t : ℕ) → (In (suc t) (flip_flop_dump a).times → ⊥) → (flip_flop_dump a).values (suc t) ≡ (flip_flop_dump a).values t
+    stays : (t : ℕ) → (IsListed (flip_flop_dump a) (suc t) → ⊥) → (flip_flop_dump a).values (suc t) ≡ (flip_flop_dump a).values t
     stays t none = ⊎_elim (λ early. early_same a t early) (λ later. ⊎_elim (λ five. mid a t later five none) (λ ten. late a t ten none) (cases_lt t 9)) (cases_lt t 4)
 
 -- where a is not early line 2 is hit in every run that shows the dump

@@ -9,7 +9,7 @@ use Rattle.design_model.specs.Machine.{machine}
 use Rattle.design_model.specs.Run.{IsRun, Run, settled}
 use Rattle.design_model.specs.Shows.{BindsSignals, BoundDump, IsWindow, ShowsUpTo}
 use Rattle.design_model.specs.MayMove.{MayMoveAt, told_at}
-use Rattle.design_model.specs.Clear.{IsForcedBy, IsWrittenValue, at_first, by_clocked, by_comb, by_net, clear, clear_before, unmoved}
+use Rattle.design_model.specs.Clear.{IsForcedBy, IsWrittenValue, at_first, by_clocked, by_comb, by_net, first_comb, clear, clear_before, unmoved}
 use Rattle.design_model.specs.Lawful.{IsLawfulDesign}
 use Rattle.design_model.specs.Laws.{ClearLaw, ContradictionLaw, ForcedLaw}
 use Rattle.design_model.proofs.MadeSound.{clear_is_sound, made_sound}
@@ -52,6 +52,7 @@ module _ (d : Design) (lawful : IsLawfulDesign d) (h : Habit) (laws : StepLaws (
     -- a forced value is that of the run
     forced_run : (t s : ℕ) (bits : List Bit) → IsSeen dump end t → dump.bound s ≡ true → IsForcedBy d h dump t s bits → signal_bits d (settled d r t) s ≡ bits
     forced_run t s bits now bound (at_first first is) = net_sound d lawful h dump binds r is_run end shows laws.net laws.no_wake laws.write laws.edge t s (clear d h dump t) bits (clear_at t now) is
+    forced_run t s bits now bound (first_comb p first is) = made_sound d lawful h dump binds r is_run end shows laws.net laws.no_wake laws.write laws.edge laws.idle laws.computed t p s (clear d h dump t) bits now (clear_at t now) is
     forced_run t s bits now bound (by_net window may is) = net_sound d lawful h dump binds r is_run end shows laws.net laws.no_wake laws.write laws.edge t s (clear d h dump t) bits (clear_at t now) is
     forced_run t s bits now bound (by_comb p window may is) = made_sound d lawful h dump binds r is_run end shows laws.net laws.no_wake laws.write laws.edge laws.idle laws.computed t p s (clear d h dump t) bits now (clear_at t now) is
     forced_run t s bits now bound (unmoved window none is) = go t window now.1 none is

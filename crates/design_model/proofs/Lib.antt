@@ -16,6 +16,7 @@ pub mod Mentions
 pub mod Prefix
 pub mod Untouched
 pub mod Times
+pub mod Stretches
 pub mod Toggles
 pub mod Sound
 pub mod Combs
@@ -23,6 +24,7 @@ pub mod MadeSound
 pub mod ForcedSound
 pub mod Hits
 pub mod StepFacts
+pub mod Left
 pub mod SettledHits
 pub mod OpenPath
 pub mod OpenNodes

@@ -22,7 +22,7 @@ use Rattle.design_model.specs.Execution.{execution}
 use Rattle.design_model.specs.Reads.{Agrees, PartialMap, nothing_known}
 use Rattle.design_model.specs.Machine.{is_level, machine}
 use Rattle.design_model.specs.Run.{IsRun, Run, settled}
-use Rattle.design_model.specs.Shows.{BindsSignals, BoundDump, IsShown, IsShownOf, IsWindow, IsWindowOf, ShowsUpTo}
+use Rattle.design_model.specs.Shows.{BindsSignals, BoundDump, IsShown, IsWindow, ShowsUpTo}
 use Rattle.design_model.specs.MayMove.{CanWakeSome, IsCleanAt, IsSingleAt, told_at}
 use Rattle.design_model.specs.Early.{IsEarlyAt}
 use Rattle.design_model.specs.Clear.{EntryFrom, IsClearBy, IsClockedTarget, IsCombValue, IsNetValue, IsWrittenValue, LeavesValue, all_writes, clear, clear_in, driven_writes, drives, of_assigns, of_clean, of_comb, of_dump, of_unwoken}
@@ -35,6 +35,7 @@ use Rattle.event_machine.proofs.Rounds.{single_told}  -- #keep
 use Rattle.design_model.proofs.Times.{StepTo, next_time}
 use Rattle.design_model.proofs.WithinMap.{put_append, put_same}
 use Rattle.design_model.proofs.Untouched.{put_other, untouched}
+use Rattle.design_model.proofs.Stretches.{no_window_at, window_shown_at}
 
 abbrev head_or : Bit → List Bit → Bit
 head_or b [] = b
@@ -240,19 +241,11 @@ module _ (d : Design) (lawful : IsLawfulDesign d) (h : Habit) (dump : BoundDump)
   pub window_shown : (t : ℕ) → IsWindow dump (suc t) → suc t ≤ end → IsSeen dump end t × IsSeen dump end (suc t)
   window_shown t w le = ((shown.0, omega (arith, le)), (shown.1, le))
     where
-      go : (ts : List ℕ) → IsWindowOf ts (suc t) → IsShownOf ts t × IsShownOf ts (suc t)
-      go [] w = absurd w
-      go (u ∷ us) w = ((omega (arith, w.0), omega (arith, w.1)), (omega (arith, w.0), w.1))
-
       shown : IsShown dump t × IsShown dump (suc t)
-      shown = go dump.times w
+      shown = window_shown_at dump.stretches t w
 
   pub no_window : IsWindow dump 0 → ⊥
-  no_window w = go dump.times w
-    where
-      go : (ts : List ℕ) → IsWindowOf ts 0 → ⊥
-      go [] w = w
-      go (u ∷ us) w = omega (arith, w.0)
+  no_window w = no_window_at dump.stretches w
 
   -- what the rule for Combs still owes
   module _ (comb_sound : (t p s : ℕ) (K : PartialMap) (bits : List Bit) → IsSeen dump end t → Agrees d K (values_at t) → IsCombValue d dump t K p s bits → signal_bits d (values_at t) s ≡ bits) where

@@ -32,7 +32,8 @@ use Rattle.design_model.proofs.Lawful.{any_gives, may_any, place_from}
 use Rattle.design_model.proofs.Sound.{entry_agrees, no_level, no_queue, pick_cell}
 use Rattle.design_model.proofs.StepLaws.{StepLaws}
 use Rattle.design_model.proofs.Times.{StepTo}
-use Rattle.design_model.proofs.Toggles.{end_values, split_steps, start_values, window_shown_at}
+use Rattle.design_model.proofs.Stretches.{window_shown_at}
+use Rattle.design_model.proofs.Toggles.{end_values, split_steps, start_values}
 use Rattle.design_model.proofs.Untouched.{untouched}
 
 module _ (d : Design) (h : Habit) where
@@ -168,7 +169,7 @@ module _ (d : Design) (lawful : IsLawfulDesign d) (h : Habit) (laws : StepLaws (
 module _ (d : Design) (lawful : IsLawfulDesign d) (h : Habit) (laws : StepLaws (machine d) h) where
   module _ (dump : BoundDump) (r : Run) (t : ℕ) (binds : BindsSignals d dump) (showing : IsShowing d h dump (suc t) r) (window : IsWindow dump (suc t)) where
     shown : IsShown dump t × IsShown dump (suc t)
-    shown = window_shown_at dump.times t window
+    shown = window_shown_at dump.stretches t window
 
     old : SameBound d dump (settled d r t) t
     old = showing.shows.shows t shown.0 (omega arith)

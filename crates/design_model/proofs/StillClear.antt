@@ -1,5 +1,5 @@
 -- Over a window time at which no value of the dump changes what is clear stays, where each input is bound.
-use Rattle.std.proofs.Common.{◌≡◌, ⊎_elim, ℕ, zero, suc, ◌-◌, ◌≤◌, List, [], ◌∷◌, sym, ap, ◌∙◌, arith}
+use Rattle.std.proofs.Common.{◌≡◌, ⊎_elim, ℕ, zero, suc, ◌-◌, ◌≤◌, List, sym, ap, ◌∙◌, arith}
 use Rattle.std.proofs.lemmas.Bool.{cases_eq}
 use Rattle.event_machine.specs.Cell.{Cell, Values}
 use Rattle.event_machine.specs.Habit.{Habit}
@@ -8,17 +8,14 @@ use Rattle.four_state.specs.declared.bit.Bit.{Bit}
 use Rattle.design_model.specs.Tree.{Stmt}
 use Rattle.design_model.specs.Design.{Design, Thing, signal_bits}
 use Rattle.design_model.specs.Reads.{Agrees, PartialMap}
-use Rattle.design_model.specs.Shows.{BoundDump, IsShownOf, IsWindow, IsWindowOf}
+use Rattle.design_model.specs.Shows.{BoundDump, IsWindow}
 use Rattle.design_model.specs.MayMove.{CanWakeSome, IsCleanAt, MayMoveAt}
 use Rattle.design_model.specs.Clear.{HasChanged, IsClearBy, IsCombValue, clear, clear_from, clear_in, clear_start, of_assigns, of_clean, of_comb, of_dump, of_unwoken}
 use Rattle.design_model.specs.Lawful.{IsLawfulDesign}
 use Rattle.design_model.specs.StillLaw.{BindsInputs, StillLaw}
 use Rattle.design_model.proofs.Closed.{closed_law}
 use Rattle.design_model.proofs.Rounds.{rules_more}
-
-pub shown_pair : (times : List ℕ) (t : ℕ) → IsWindowOf times (suc t) → IsShownOf times t × IsShownOf times (suc t)
-shown_pair [] t window = absurd window
-shown_pair (u ∷ us) t window = ((omega (arith, window.0), omega (arith, window.1)), (omega (arith, window.0), window.1))
+use Rattle.design_model.proofs.Stretches.{window_shown_at}
 
 to_rounds : (d : Design) (h : Habit) (dump : BoundDump) (t : ℕ) (x : Thing) (bits : List Bit) → clear d h dump t x bits → clear_from d h dump t (clear_start d h dump t) x bits
 to_rounds d h dump zero x bits k = k
@@ -77,7 +74,7 @@ module _ (d : Design) (lawful : IsLawfulDesign d) (h : Habit) (dump : BoundDump)
   -- by a rule, from what was clear at the moment before
   back_by : (x : Thing) (bits : List Bit) → IsClearBy d h dump (suc t) (clear d h dump t) (clear d h dump t) x bits → clear d h dump t x bits
   back_by x bits (of_dump s w0 is_shown is_bound is_signal is) =
-      closed_law d lawful h dump t v agrees x bits (of_dump s w0 (shown_pair dump.times t window).0 is_bound is_signal (is ∙ ap (λ f. signal_bits d f s) same))
+      closed_law d lawful h dump t v agrees x bits (of_dump s w0 (window_shown_at dump.stretches t window).0 is_bound is_signal (is ∙ ap (λ f. signal_bits d f s) same))
   back_by x bits (of_assigns s w0 unbound is) = closed_law d lawful h dump t v agrees x bits (of_assigns s w0 unbound is)
   back_by x bits (of_comb p s w0 unbound is) =
       closed_law d lawful h dump t v agrees x bits (of_comb p s w0 unbound (comb_at d h dump inputs t same (suc t) t (clear d h dump t) p s w0 (changed_before d h dump inputs t same) is))
@@ -97,7 +94,7 @@ module _ (d : Design) (lawful : IsLawfulDesign d) (h : Habit) (dump : BoundDump)
   -- by a rule, at the moment before
   on_by : (start : PartialMap) (x : Thing) (bits : List Bit) → clear d h dump t x bits → IsClearBy d h dump t start (clear d h dump (suc t)) x bits → clear d h dump (suc t) x bits
   on_by start x bits old (of_dump s w0 is_shown is_bound is_signal is) =
-      closed_law d lawful h dump (suc t) v agrees_now x bits (of_dump s w0 (shown_pair dump.times t window).1 is_bound is_signal (is ∙ ap (λ f. signal_bits d f s) (sym same)))
+      closed_law d lawful h dump (suc t) v agrees_now x bits (of_dump s w0 (window_shown_at dump.stretches t window).1 is_bound is_signal (is ∙ ap (λ f. signal_bits d f s) (sym same)))
   on_by start x bits old (of_assigns s w0 unbound is) = closed_law d lawful h dump (suc t) v agrees_now x bits (of_assigns s w0 unbound is)
   on_by start x bits old (of_comb p s w0 unbound is) =
       closed_law d lawful h dump (suc t) v agrees_now x bits (of_comb p s w0 unbound (comb_at d h dump inputs t same t (suc t) (clear d h dump (suc t)) p s w0 (changed_later d h dump inputs t same) is))

@@ -11,11 +11,12 @@ use Rattle.four_state.specs.declared.bit.Bit.TheVariants.{One, Zero}
 use Rattle.design_model.specs.Design.{Design, cell, signal_at}
 use Rattle.design_model.specs.Machine.{machine}
 use Rattle.design_model.specs.Run.{IsRun, Run, StepOf, end_of, settled, start_of, state_after_steps}
-use Rattle.design_model.specs.Shows.{BoundDump, InWindow, IsShown, IsShownOf, IsWindow, IsWindowOf, Shows}
+use Rattle.design_model.specs.Shows.{BoundDump, InWindow, IsShown, IsWindow, Shows}
 use Rattle.design_model.specs.Points.{IsHit, StandAtEnds, TogglesIn, indexed_cell, toggle_cell, toggle_point}
 use Rattle.design_model.specs.ToggleLaw.{ToggleLaw, TogglesAt}
 use Rattle.design_model.specs.Value.{offset}
 use Rattle.design_model.specs.Assignment.{signal_range}
+use Rattle.design_model.proofs.Stretches.{no_window_at, window_shown_at}
 use Rattle.design_model.proofs.Sound.{pick_cell}
 use Rattle.design_model.proofs.Hits.{StepHere, step_here}
 use Rattle.design_model.proofs.Times.{passed, still_there, waiting}
@@ -70,16 +71,6 @@ toggle_cell_in d s i some = go (signal_at d s).ranged
     go true = indexed_in s (signal_at d s).width (offset (signal_range d s) (pos i)) some
     go false = (refl, some)
 
--- a window time and the time before it are shown
-pub window_shown_at : (times : List ℕ) (t : ℕ) → IsWindowOf times (suc t) → IsShownOf times t × IsShownOf times (suc t)
-window_shown_at [] t window = absurd window
-window_shown_at (u ∷ us) t window = ((omega (arith, window.0), omega (arith, window.1)), (omega (arith, window.0), window.1))
-
--- no window begins at time 0
-pub no_window_at : (times : List ℕ) → IsWindowOf times 0 → ⊥
-no_window_at [] window = window
-no_window_at (u ∷ us) window = omega (arith, window.0)
-
 module _ (d : Design) (h : Habit) (dump : BoundDump) (r : Run) (s i : ℕ) (is_run : IsRun d h r) (shows : Shows d dump r) (bound : dump.bound s ≡ true) (some : 0 < (signal_at d s).width) where
   shown_value : (t : ℕ) → IsShown dump t → settled d r t (toggle_cell d s i) ≡ dump.values t (toggle_cell d s i)
   shown_value t shown =
@@ -89,7 +80,7 @@ module _ (d : Design) (h : Habit) (dump : BoundDump) (r : Run) (s i : ℕ) (is_r
 
   to_dump : (k : StepOf r) (x y : Bit) (t : ℕ) → k.step.time ≡ suc t → IsWindow dump (suc t) → StandAtEnds d r k (toggle_cell d s i) x y → (dump.values t (toggle_cell d s i) ≡ x) × (dump.values (suc t) (toggle_cell d s i) ≡ y)
   to_dump k x y t at window ends =
-      let shown = window_shown_at dump.times t window in (
+      let shown = window_shown_at dump.stretches t window in (
         sym (shown_value t shown.0) ∙ ap (λ v. v (toggle_cell d s i)) (sym (start_values d h r is_run k t at)) ∙ ends.0,
         sym (shown_value (suc t) shown.1) ∙ ap (λ v. v (toggle_cell d s i)) (sym (end_values d h r is_run k (suc t) at)) ∙ ends.1,
       )
@@ -99,7 +90,7 @@ module _ (d : Design) (h : Habit) (dump : BoundDump) (r : Run) (s i : ℕ) (is_r
   to_run x y t apart window before after = go (step_here d h r is_run t)
     where
       shown : IsShown dump t × IsShown dump (suc t)
-      shown = window_shown_at dump.times t window
+      shown = window_shown_at dump.stretches t window
 
       old : settled d r t (toggle_cell d s i) ≡ x
       old = shown_value t shown.0 ∙ before
@@ -125,7 +116,7 @@ module _ (d : Design) (h : Habit) (dump : BoundDump) (r : Run) (s i : ℕ) (is_r
   one_zero e = cc
 
   hit_toggles_at : (rise : Bool) (k : StepOf r) (t : ℕ) → k.step.time ≡ t → IsWindow dump t → TogglesIn d r k (toggle_cell d s i) rise → TogglesAt dump (toggle_cell d s i) t rise
-  hit_toggles_at rise k zero at window ends = absurd (no_window_at dump.times window)
+  hit_toggles_at rise k zero at window ends = absurd (no_window_at dump.stretches window)
   hit_toggles_at true k (suc t) at window ends = let both = to_dump k Zero One t at window ends in (subst (λ u. dump.values u (toggle_cell d s i) ≡ Zero) (before_is t) both.0, both.1)
     where
       before_is : (t : ℕ) → t ≡ suc t - 1
@@ -140,7 +131,7 @@ module _ (d : Design) (h : Habit) (dump : BoundDump) (r : Run) (s i : ℕ) (is_r
   hit_toggles rise (inr at) = absurd at.3
 
   toggles_hit : (rise : Bool) (t : ℕ) → IsWindow dump t → TogglesAt dump (toggle_cell d s i) t rise → IsHit d dump r (toggle_point s i rise)
-  toggles_hit rise zero window toggles = absurd (no_window_at dump.times window)
+  toggles_hit rise zero window toggles = absurd (no_window_at dump.stretches window)
   toggles_hit true (suc t) window toggles = inl (to_run Zero One t zero_one window (subst (λ u. dump.values u (toggle_cell d s i) ≡ Zero) (after_is t) toggles.0) toggles.1)
     where
       after_is : (t : ℕ) → suc t - 1 ≡ t

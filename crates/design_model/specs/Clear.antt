@@ -131,6 +131,7 @@ clear_before d h dump t = clear d h dump (t - 1)
 -- at a window time bound signal s may not move, and its value at the start is forced; else a rule would give it this value
 pub data IsForcedBy (d : Design) (h : Habit) (dump : BoundDump) (t : ℕ) (s : ℕ) (bits : List Bit) : Type 0 where
   at_first : IsFirst dump t → IsNetValue d (clear d h dump t) s bits → IsForcedBy d h dump t s bits
+  first_comb : (p : ℕ) → IsFirst dump t → IsCombValue d dump t (clear d h dump t) p s bits → IsForcedBy d h dump t s bits
   unmoved : IsWindow dump t → (MayMoveAt d dump t s → ⊥) → bits ≡ signal_bits d (dump.values (t - 1)) s → IsForcedBy d h dump t s bits
   by_net : IsWindow dump t → MayMoveAt d dump t s → IsNetValue d (clear d h dump t) s bits → IsForcedBy d h dump t s bits
   by_comb : (p : ℕ) → IsWindow dump t → MayMoveAt d dump t s → IsCombValue d dump t (clear d h dump t) p s bits → IsForcedBy d h dump t s bits

@@ -44,7 +44,7 @@ flip_flop_values clk a q c = slice_index_or (clk ∷ a ∷ q ∷ []) c.thing X
 abbrev pub flip_flop_dump : Bit → BoundDump
 flip_flop_dump a =
     record {
-      times = 0 ∷ 5 ∷ 10 ∷ [];
+      stretches = (0 ∷ 5 ∷ 10 ∷ []) ∷ [];
       bound = λ s. nat_lt s 3;
       values = λ t. if nat_le 10 t then flip_flop_values Zero a One else (if nat_le 5 t then flip_flop_values One a One else flip_flop_values Zero One X);
       round = λ t. 0;

@@ -36,7 +36,7 @@ gate_values a b y c = slice_index_or (a ∷ b ∷ y ∷ []) c.thing X
 abbrev pub gate_dump : BoundDump
 gate_dump =
     record {
-      times = 0 ∷ 5 ∷ 10 ∷ [];
+      stretches = (0 ∷ 5 ∷ 10 ∷ []) ∷ [];
       bound = λ s. nat_lt s 2;
       values = λ t. if nat_le 10 t then gate_values Zero One X else (if nat_le 5 t then gate_values One One X else gate_values Zero One X);
       round = λ t. 0;

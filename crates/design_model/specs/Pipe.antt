@@ -39,7 +39,7 @@ pipe_values clk a b q y c = slice_index_or (clk ∷ a ∷ b ∷ q ∷ y ∷ []) 
 abbrev pub pipe_dump : BoundDump
 pipe_dump =
     record {
-      times = 0 ∷ 5 ∷ 10 ∷ 15 ∷ [];
+      stretches = (0 ∷ 5 ∷ 10 ∷ 15 ∷ []) ∷ [];
       bound = λ s. nat_lt s 4;
       values = λ t. if nat_le 15 t then pipe_values Zero One One One X else (if nat_le 10 t then pipe_values One One One One X else (if nat_le 5 t then pipe_values Zero One One X X else pipe_values Zero Zero One X X));
       round = λ t. 0;

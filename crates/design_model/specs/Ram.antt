@@ -36,7 +36,7 @@ ram_values clk we q words c = slice_index_or (slice_index_or ((clk ∷ []) ∷ (
 abbrev pub ram_dump : BoundDump
 ram_dump =
     record {
-      times = 0 ∷ 5 ∷ 10 ∷ 15 ∷ 20 ∷ [];
+      stretches = (0 ∷ 5 ∷ 10 ∷ 15 ∷ 20 ∷ []) ∷ [];
       bound = λ s. nat_lt s 6;
       values = λ t. if nat_le 20 t then ram_values Zero Zero One [] else (if nat_le 15 t then ram_values One Zero One [] else (if nat_le 10 t then ram_values Zero Zero Zero [] else (if nat_le 5 t then ram_values One One Zero [] else ram_values Zero One Zero [])));
       round = λ t. 0;

@@ -1,5 +1,5 @@
 -- What holds of each step of a run that shows the dump up to the time of the step.
-use Rattle.std.specs.Prelude.{◌≡◌, ◌≢◌, ◌⊎◌, ◌∷◌, ◌++◌, ◌<◌, ℕ, suc, true, List, []}
+use Rattle.std.specs.Prelude.{◌≡◌, ◌≢◌, ◌⊎◌, ◌∷◌, ◌++◌, ◌<◌, ◌≤◌, ℕ, suc, true, List, []}
 use Rattle.event_machine.specs.Cell.{Cell, Values, put_all}
 use Rattle.event_machine.specs.Machine.{IsTarget, IsWakeCell, output}
 use Rattle.event_machine.specs.Event.{Event, end_state}
@@ -11,7 +11,7 @@ use Rattle.design_model.specs.Design.{Design, IsClocked, body_at, is_assign, pro
 use Rattle.design_model.specs.Execution.{execution}
 use Rattle.design_model.specs.Reads.{Agrees}
 use Rattle.design_model.specs.Machine.{is_level, machine}
-use Rattle.design_model.specs.Run.{Run, StepOf, end_of, evaluations_of, settled, start_of}
+use Rattle.design_model.specs.Run.{IsRun, Run, StepOf, end_of, evaluations_of, settled, start_of}
 use Rattle.design_model.specs.Shows.{BindsSignals, BoundDump, IsDumpOf, IsListed, IsShowing, IsWindow}
 use Rattle.design_model.specs.MayMove.{CanWakeSome, IsCleanAt, MayMoveAt}
 use Rattle.design_model.specs.Early.{IsEarlyAt}
@@ -99,6 +99,10 @@ abbrev pub UnlistedLaw : Design → Habit → Type 0
 UnlistedLaw d h =
     (dump : BoundDump) (r : Run) (t : ℕ) → IsDumpOf d dump → IsShowing d h dump (suc t) r → IsWindow dump (suc t) → (IsListed dump (suc t) → ⊥)
     → (settled d r (suc t) ≡ settled d r t) × ((k : StepOf r) → k.step.time ≡ suc t → k.step.events ≡ [])
+
+-- Left law: where the targets of a process are as an evaluation leaves them that began with its settled wake cells, they are so at each later time.
+abbrev pub LeftStaysLaw : Design → Habit → Type 0
+LeftStaysLaw d h = (r : Run) (t u p : ℕ) → IsRun d h r → t ≤ u → IsLeft d p (settled d r t) → IsLeft d p (settled d r u)
 
 -- Queue law: an Assign queues no update.
 abbrev pub AssignQueuesLaw : Design → Type 0

@@ -19,7 +19,7 @@ ghost use Rattle.design_model.specs.Lawful.{IsLawfulDesign};
 ghost use Rattle.design_model.specs.ToggleLaw.{ToggleLaw};
 ghost use Rattle.design_model.specs.BodyLaws.{AssignLineLaw, AssignVisitsLaw, ListedMemoryLaw, MentionReadLaw, OwnNotClearLaw, OwnUnclearLaw, OwnWakeLaw, PathMentionsLaw, SettledSignalsLaw, TargetCellsLaw, TargetNamesLaw, WordVisitsLaw, WrittenCellsLaw};
 ghost use Rattle.design_model.specs.RoundLaws.{DecidedRoundsLaw, EndingRoundsLaw, FirstRoundsLaw, GrowingRoundsLaw, LastRoundsLaw};
-ghost use Rattle.design_model.specs.StepLaws.{AssignQueuesLaw, StepFactsLaw, EventFactsLaw, CleanStepLaw, UnlistedLaw};
+ghost use Rattle.design_model.specs.StepLaws.{AssignQueuesLaw, StepFactsLaw, EventFactsLaw, CleanStepLaw, LeftStaysLaw, UnlistedLaw};
 ghost use Rattle.design_model.specs.MoreKnown.{MoreKnownLaw};
 ghost use Rattle.design_model.specs.StillLaw.{StillLaw};
 ghost use Rattle.design_model.specs.Laws.{BoundClearLaw, ClearLaw, ContradictionLaw, ForcedLaw, ClearValueLaw, ClearRoundsLaw, ClearClosedLaw, ClearLeastLaw, ReachedLaw, DefinitenessLaw, BoundPointLaw};
@@ -69,12 +69,13 @@ pub fn clear_law()
 
 /// What the laws of the machine say of each step of a run that shows the dump up to the step's time: of the settled
 /// values at its ends, and of its events. A clean block has its step, and at a time that the dump does not list, where
-/// all inputs are bound, nothing happens.
+/// all inputs are bound, nothing happens. What a process has left stays so, also where the dump is off.
 pub fn step_law()
     ensures facts { (d : DesignTree) (h : Habit) → IsLawfulDesign d → StepFactsLaw d h }
     ensures events { (d : DesignTree) (h : Habit) → IsLawfulDesign d → EventFactsLaw d h }
     ensures clean_step { (d : DesignTree) (h : Habit) → IsLawfulDesign d → CleanStepLaw d h }
     ensures unlisted { (d : DesignTree) (h : Habit) → IsLawfulDesign d → UnlistedLaw d h }
+    ensures left { (d : DesignTree) (h : Habit) → IsLawfulDesign d → LeftStaysLaw d h }
 {}
 
 /// What is clear grows from round to round, is closed under its rules, and is the least map that is. A bound signal is

@@ -1,19 +1,19 @@
 -- At a hidden time no more is clear than the moment before, and at the hidden times after it the same.
-use Rattle.std.proofs.Common.{◌≡◌, ⊎_elim, ℕ, zero, suc, ◌+◌, ◌-◌, ◌≤◌, List, [], ◌∷◌, refl, sym, ap, subst, ◌∙◌, arith}
-use Rattle.std.proofs.lemmas.Bool.{cases_eq}
+use Rattle.std.proofs.Common.{◌≡◌, ⊎_elim, ℕ, zero, suc, ◌+◌, ◌-◌, ◌≤◌, List, refl, sym, ap, subst, ◌∙◌, arith}
+use Rattle.std.proofs.lemmas.Bool.{cases_eq, cases_lt}
 use Rattle.event_machine.specs.Cell.{Values}
 use Rattle.event_machine.specs.Habit.{Habit}
 use Rattle.design_model.specs.four_state.declared.bit.Bit.{Bit}
 use Rattle.design_model.specs.Tree.{Stmt}
 use Rattle.design_model.specs.Design.{Design, Thing, signal_bits}
 use Rattle.design_model.specs.Reads.{Agrees, PartialMap}
-use Rattle.design_model.specs.Shows.{BoundDump, IsListed, IsWindow, IsWindowOf}
+use Rattle.design_model.specs.Shows.{AreStretches, BoundDump, IsListed, IsWindow}
 use Rattle.design_model.specs.MayMove.{AreLastRounds, CanWakeSome}
 use Rattle.design_model.specs.Clear.{HasChanged, IsClearBy, IsCombValue, clear, clear_from, clear_in, clear_start, of_assigns, of_clean, of_comb, of_dump, of_unwoken}
 use Rattle.design_model.specs.Lawful.{IsLawfulDesign}
 use Rattle.design_model.proofs.Closed.{closed_law}
 use Rattle.design_model.proofs.Rounds.{rules_more}
-use Rattle.design_model.proofs.Toggles.{window_shown_at}
+use Rattle.design_model.proofs.Stretches.{between, shown_then, window_shown_at}
 use Rattle.hidden_times.specs.Hidden.{IsAnyDumpOf, IsHiddenOn}
 use Rattle.hidden_times.specs.Laws.{AreSameSets, SameClearLaw, ShrinkLaw}
 use Rattle.hidden_times.proofs.Quiet.{no_clean_law}
@@ -69,7 +69,7 @@ module _ (d : Design) (lawful : IsLawfulDesign d) (h : Habit) (dump : BoundDump)
   -- by a rule, from what was clear at the moment before
   back_by : (x : Thing) (bits : List Bit) → IsClearBy d h dump (suc t) (clear d h dump t) (clear d h dump t) x bits → clear d h dump t x bits
   back_by x bits (of_dump s w0 is_shown is_bound is_signal is) =
-      closed_law d lawful h dump t v agrees x bits (of_dump s w0 (window_shown_at dump.times t window).0 is_bound is_signal (is ∙ ap (λ f. signal_bits d f s) same))
+      closed_law d lawful h dump t v agrees x bits (of_dump s w0 (window_shown_at dump.stretches t window).0 is_bound is_signal (is ∙ ap (λ f. signal_bits d f s) same))
   back_by x bits (of_assigns s w0 unbound is) = closed_law d lawful h dump t v agrees x bits (of_assigns s w0 unbound is)
   back_by x bits (of_comb p s w0 unbound is) =
       closed_law d lawful h dump t v agrees x bits (of_comb p s w0 unbound (comb_at d dump t same (suc t) t (clear d h dump t) p s w0 (changed_before d dump t same) is))
@@ -94,7 +94,7 @@ module _ (d : Design) (lawful : IsLawfulDesign d) (h : Habit) (dump : BoundDump)
     -- by a rule, at the moment before
     on_by : (start : PartialMap) (x : Thing) (bits : List Bit) → clear d h dump t x bits → IsClearBy d h dump t start (clear d h dump (suc t)) x bits → clear d h dump (suc t) x bits
     on_by start x bits old (of_dump s w0 is_shown is_bound is_signal is) =
-        closed_law d lawful h dump (suc t) v agrees_now x bits (of_dump s w0 (window_shown_at dump.times t window).1 is_bound is_signal (is ∙ ap (λ f. signal_bits d f s) (sym same)))
+        closed_law d lawful h dump (suc t) v agrees_now x bits (of_dump s w0 (window_shown_at dump.stretches t window).1 is_bound is_signal (is ∙ ap (λ f. signal_bits d f s) (sym same)))
     on_by start x bits old (of_assigns s w0 unbound is) = closed_law d lawful h dump (suc t) v agrees_now x bits (of_assigns s w0 unbound is)
     on_by start x bits old (of_comb p s w0 unbound is) =
         closed_law d lawful h dump (suc t) v agrees_now x bits (of_comb p s w0 unbound (comb_at d dump t same t (suc t) (clear d h dump (suc t)) p s w0 (changed_later d dump t same) is))
@@ -124,13 +124,16 @@ pub hidden_step : (dump : BoundDump) (t v : ℕ) → t ≤ v → IsHiddenOn dump
 hidden_step dump t v le hidden window =
     record { later = omega arith; first = window; last = hidden.last; none = λ u after within. hidden.none u (omega (arith, after, le)) within }
 
--- what is between two times of the window is of it
-window_between : (ts : List ℕ) (t v : ℕ) → t ≤ v → IsWindowOf ts t → IsWindowOf ts (suc v) → IsWindowOf ts v
-window_between [] t v le first last = first
-window_between (u ∷ us) t v le first last = (omega (arith, le, first.0), omega (arith, last.1))
-
-pub window_of : (dump : BoundDump) (t v : ℕ) → t ≤ v → IsHiddenOn dump t (suc v) → IsWindow dump v
-window_of dump t v le hidden = window_between dump.times t v le hidden.first hidden.last
+-- what is between two of them is of the window
+pub window_of : (dump : BoundDump) → AreStretches dump.stretches → (t v : ℕ) → t ≤ v → IsHiddenOn dump t (suc v) → IsWindow dump v
+window_of dump order t v le hidden =
+    ⊎_elim
+    (λ less. between dump.stretches t v (suc v) order less (omega arith) (λ u after before. hidden.none u (omega (arith, after)) (omega (arith, before))) (shown_then dump.stretches t hidden.first) hidden.last)
+    (λ most. same most)
+    (cases_lt t v)
+  where
+    same : v ≤ t → IsWindow dump v
+    same most = let e : t ≡ v = omega (arith, le, most) in subst (IsWindow dump) e hidden.first
 
 module _ (d : Design) (h : Habit) (lawful : IsLawfulDesign d) (dump : BoundDump) (any : IsAnyDumpOf d dump) (rounds : AreLastRounds d dump) (t : ℕ) (w : Values Bit) (agrees : Agrees d (clear d h dump t) w) where
   -- at each hidden time after t the same is clear as at t
@@ -142,7 +145,7 @@ module _ (d : Design) (h : Habit) (lawful : IsLawfulDesign d) (dump : BoundDump)
 
   one_more : (v : ℕ) → IsHiddenOn dump t (suc v) → t ≤ v → IsSame v → IsSame (suc v)
   one_more v hidden le same =
-      let window : IsWindow dump v = window_of dump t v le hidden in
+      let window : IsWindow dump v = window_of dump any.rising t v le hidden in
       let unlisted : IsListed dump (suc v) → ⊥ = hidden.none (suc v) hidden.later (omega arith) in
       let before : IsListed dump v → ⊥ = hidden.none v le (omega arith) in
       let now : Agrees d (clear d h dump v) w = λ x bits k. agrees x bits (same.0 x bits k) in
@@ -158,7 +161,7 @@ module _ (d : Design) (h : Habit) (lawful : IsLawfulDesign d) (dump : BoundDump)
       let e : v ≡ suc (n + t) = omega (arith, is) in
       let le : t ≤ n + t = omega arith in
       let on : IsHiddenOn dump t (suc (n + t)) = subst (IsHiddenOn dump t) e hidden in
-      subst IsSame (sym e) (one_more (n + t) on le (is_same n (n + t) refl (hidden_to dump t (n + t) le on (window_of dump t (n + t) le on))))
+      subst IsSame (sym e) (one_more (n + t) on le (is_same n (n + t) refl (hidden_to dump t (n + t) le on (window_of dump any.rising t (n + t) le on))))
 
 pub same_clear_law : (d : Design) (h : Habit) → IsLawfulDesign d → SameClearLaw d h
 same_clear_law d h lawful dump any rounds t v hidden w agrees x bits =

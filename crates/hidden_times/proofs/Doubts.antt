@@ -10,7 +10,7 @@ use Rattle.design_model.specs.Machine.{machine}
 use Rattle.design_model.specs.MayMove.{AreLastRounds, CanWakeSome, MayMoveAt}
 use Rattle.design_model.specs.MoreKnown.{DoesNoLess}
 use Rattle.design_model.specs.Run.{Run, settled}
-use Rattle.design_model.specs.Shows.{BoundDump, IsListed, IsShowing, IsShownOf, IsWindow, IsWindowOf}
+use Rattle.design_model.specs.Shows.{BoundDump, IsListed, IsShowing, IsWindow}
 use Rattle.design_model.specs.Points.{IsBlock}
 use Rattle.design_model.specs.declared.point.Point.{Point}
 use Rattle.design_model.specs.Clear.{clear, clear_before}
@@ -20,18 +20,13 @@ use Rattle.design_model.proofs.Assigns.{machine_lawful}
 use Rattle.design_model.proofs.ForcedSound.{clear_law}
 use Rattle.design_model.proofs.MoreKnown.{more_known_law}
 use Rattle.design_model.proofs.StepLaws.{step_laws}
-use Rattle.design_model.proofs.Toggles.{no_window_at, window_shown_at}
+use Rattle.design_model.proofs.Stretches.{no_window_at, shown_then, window_shown_at}
 use Rattle.hidden_times.specs.Hidden.{IsAnyDumpOf, IsHiddenOn}
 use Rattle.hidden_times.specs.Laws.{AreSameSets, SameDoubtLaw}
 use Rattle.hidden_times.proofs.Clear.{same_clear_law, shrink_law}
 use Rattle.hidden_times.proofs.Jump.{shows_before}
 use Rattle.hidden_times.proofs.Quiet.{no_clean_law}
 use Rattle.hidden_times.proofs.Sets.{same_sets}
-
--- a time of the window is shown
-shown_of : (ts : List ℕ) (t : ℕ) → IsWindowOf ts t → IsShownOf ts t
-shown_of [] t h = h
-shown_of (u ∷ us) t h = (omega (arith, h.0), h.1)
 
 -- where all is inside, what is visited up to an outside by another map is so by this one
 up_to_end : (K L : PartialMap) (y : Visit) (xs : List Visit) → AllInside K xs → UpToOutside L y xs → UpToOutside K y xs
@@ -54,7 +49,7 @@ module _ (d : Design) (h : Habit) (lawful : IsLawfulDesign d) (dump : BoundDump)
 
   -- the settled values at t are those that are clear
   agrees : Agrees d (clear d h dump t) (settled d r t)
-  agrees = clear_law d lawful h (step_laws (machine d) (machine_lawful d lawful) h) dump r t any.signals (shows_before d h dump t v r hidden.later showing) (shown_of dump.times t hidden.first)
+  agrees = clear_law d lawful h (step_laws (machine d) (machine_lawful d lawful) h) dump r t any.signals (shows_before d h dump t v r hidden.later showing) (shown_then dump.stretches t hidden.first)
 
   -- what is clear at v is clear at t
   earlier : (y : Thing) (bits : List Bit) → clear d h dump v y bits → clear d h dump t y bits
@@ -62,7 +57,7 @@ module _ (d : Design) (h : Habit) (lawful : IsLawfulDesign d) (dump : BoundDump)
 
   -- and so the moment before
   before_at : (u : ℕ) → u ≡ t → (y : Thing) (bits : List Bit) → clear d h dump t y bits → clear_before d h dump t y bits
-  before_at zero e = absurd (no_window_at dump.times (subst (IsWindow dump) (sym e) hidden.first))
+  before_at zero e = absurd (no_window_at dump.stretches (subst (IsWindow dump) (sym e) hidden.first))
   before_at (suc u) e = subst (λ w. (y : Thing) (bits : List Bit) → clear d h dump w y bits → clear_before d h dump w y bits) e step
     where
       window : IsWindow dump (suc u)
@@ -71,7 +66,7 @@ module _ (d : Design) (h : Habit) (lawful : IsLawfulDesign d) (dump : BoundDump)
       started : Agrees d (clear d h dump u) (settled d r u)
       started =
           let le : u ≤ v = omega (arith, e, hidden.later) in
-          clear_law d lawful h (step_laws (machine d) (machine_lawful d lawful) h) dump r u any.signals (shows_before d h dump u v r le showing) (window_shown_at dump.times u window).0
+          clear_law d lawful h (step_laws (machine d) (machine_lawful d lawful) h) dump r u any.signals (shows_before d h dump u v r le showing) (window_shown_at dump.stretches u window).0
 
       step : (y : Thing) (bits : List Bit) → clear d h dump (suc u) y bits → clear_before d h dump (suc u) y bits
       step y bits k =

@@ -92,7 +92,7 @@ module _ (d : Design) (h : Habit) (lawful : IsLawfulDesign d) (dump : BoundDump)
       let le : suc t ≤ n + suc t = omega arith in
       let on : IsHiddenOn dump (suc t) (suc (n + suc t)) = subst (IsHiddenOn dump (suc t)) e hidden in
       let now : IsShowing d h dump (suc (n + suc t)) r = subst (λ u. IsShowing d h dump u r) e showing in
-      let before : Facts (n + suc t) = jump_by n (n + suc t) refl (hidden_to dump (suc t) (n + suc t) le on (window_of dump (suc t) (n + suc t) le on)) (shows_before d h dump (n + suc t) (suc (n + suc t)) r (omega arith) now) in
+      let before : Facts (n + suc t) = jump_by n (n + suc t) refl (hidden_to dump (suc t) (n + suc t) le on (window_of dump any.rising (suc t) (n + suc t) le on)) (shows_before d h dump (n + suc t) (suc (n + suc t)) r (omega arith) now) in
       subst Facts (sym e) (join_facts (n + suc t) on before (step_facts (n + suc t) on.last now))
 
   jump : (v : ℕ) → IsWindow dump (suc t) → IsSameTime dump (suc t) v → IsShowing d h dump v r → Facts v

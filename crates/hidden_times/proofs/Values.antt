@@ -4,7 +4,7 @@ use Rattle.design_model.specs.Design.{Design}
 use Rattle.design_model.specs.Shows.{BoundDump, IsListed, IsWindow}
 use Rattle.design_model.specs.StillLaw.{KeepsValues}
 use Rattle.design_model.specs.MayMove.{told_at}
-use Rattle.design_model.proofs.Toggles.{no_window_at}
+use Rattle.design_model.proofs.Stretches.{no_window_at}
 use Rattle.hidden_times.specs.Hidden.{IsHiddenOn}
 use Rattle.hidden_times.specs.Laws.{SameValuesLaw}
 
@@ -19,7 +19,7 @@ module _ (dump : BoundDump) (keeps : KeepsValues dump) where
 
   -- at a hidden time they are those of the moment before
   pub stay_at : (t : ℕ) → IsWindow dump t → (IsListed dump t → ⊥) → dump.values t ≡ dump.values (t - 1)
-  stay_at zero window unlisted = absurd (no_window_at dump.times window)
+  stay_at zero window unlisted = absurd (no_window_at dump.stretches window)
   stay_at (suc t) window unlisted = let back : suc t - 1 ≡ t = omega arith in keeps t unlisted ∙ ap dump.values (sym back)
 
   module _ (t v : ℕ) (hidden : IsHiddenOn dump t v) where

@@ -2,18 +2,18 @@
 use Rattle.std.specs.Prelude.{◌≡◌, ◌⊎◌, ◌==◌, ◌≤◌, ℕ, suc, Bool}
 use Rattle.std.specs.List.{list_any}
 use Rattle.design_model.specs.Design.{Design}
-use Rattle.design_model.specs.Shows.{AreRising, BindsSignals, BoundDump, IsListed, IsWindow}
+use Rattle.design_model.specs.Shows.{AreStretches, BindsSignals, BoundDump, IsListed, IsWindow}
 use Rattle.design_model.specs.StillLaw.{BindsInputs}
 
 -- a dump of the design, which may lack inputs: the times rise, only signals are bound, and between listed times the dump's values stay
 pub record IsAnyDumpOf (d : Design) (p : BoundDump) : Type 0 where
-  pub rising : AreRising p.times
+  pub rising : AreStretches p.stretches
   pub signals : BindsSignals d p
   pub stays : (t : ℕ) → (IsListed p (suc t) → ⊥) → p.values (suc t) ≡ p.values t
 
--- whether the dump lists the time
+-- whether a stretch of the dump lists the time
 abbrev pub is_listed : BoundDump → ℕ → Bool
-is_listed dump t = list_any (λ u. u == t) dump.times
+is_listed dump t = list_any (λ times. list_any (λ u. u == t) times) dump.stretches
 
 -- from t to v the times are of the window, and the dump lists none
 pub record IsHiddenOn (dump : BoundDump) (t v : ℕ) : Type 0 where

@@ -34,3 +34,4 @@ pub mod SteadyReset
 pub mod PipeOpen
 pub mod RamOpen
 pub mod OtherLine
+pub mod GapForced

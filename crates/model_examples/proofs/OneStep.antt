@@ -15,7 +15,7 @@ use Rattle.design_model.specs.Shows.{BoundDump, Shows}
 
 module _ (d : Design) (bound : ℕ → Bool) (round : ℕ → ℕ) (a b c : Values Bit) (s : State Bit) (es : List (Event Bit)) where
   abbrev dump : BoundDump
-  dump = record { times = 0 ∷ 5 ∷ 10 ∷ []; bound = bound; round = round; values = λ t. if nat_le 10 t then c else (if nat_le 5 t then b else a) }
+  dump = record { stretches = (0 ∷ 5 ∷ 10 ∷ []) ∷ []; bound = bound; round = round; values = λ t. if nat_le 10 t then c else (if nat_le 5 t then b else a) }
 
   abbrev run : Run
   run = record { begins = 0; start = s; steps = record { time = 5; events = es } ∷ [] }

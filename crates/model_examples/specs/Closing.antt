@@ -39,7 +39,7 @@ closing_values en d y c = slice_index_or (en ∷ d ∷ y ∷ []) c.thing X
 abbrev pub closing_dump : BoundDump
 closing_dump =
     record {
-      times = 0 ∷ 5 ∷ 10 ∷ [];
+      stretches = (0 ∷ 5 ∷ 10 ∷ []) ∷ [];
       bound = λ s. nat_lt s 3;
       round = λ t. 0;
       values = λ t. if nat_le 10 t then closing_values One One One else (if nat_le 5 t then closing_values Zero One One else closing_values One Zero Zero);

@@ -49,7 +49,7 @@ divided_values clk d h q c = slice_index_or (clk ∷ d ∷ h ∷ q ∷ []) c.thi
 abbrev pub divided_dump : ℕ → BoundDump
 divided_dump n =
     record {
-      times = 0 ∷ 5 ∷ 10 ∷ [];
+      stretches = (0 ∷ 5 ∷ 10 ∷ []) ∷ [];
       bound = λ s. nat_lt s 4;
       round = λ t. n;
       values = λ t. if nat_le 10 t then divided_values Zero One One One else (if nat_le 5 t then divided_values One One One One else divided_values Zero One Zero Zero);

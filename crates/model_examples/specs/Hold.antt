@@ -46,7 +46,7 @@ hold_values clk en a q p c = slice_index_or (clk ∷ en ∷ a ∷ q ∷ p ∷ []
 abbrev pub hold_dump : BoundDump
 hold_dump =
     record {
-      times = 0 ∷ 5 ∷ 10 ∷ [];
+      stretches = (0 ∷ 5 ∷ 10 ∷ []) ∷ [];
       bound = λ s. nat_lt s 5;
       round = λ t. 0;
       values = λ t. if nat_le 10 t then hold_values Zero Zero Zero Zero Zero else (if nat_le 5 t then hold_values One Zero Zero Zero Zero else hold_values Zero Zero One Zero Zero);

@@ -50,7 +50,7 @@ hold_bit_values clk a q c = slice_index_or (slice_index_or ((clk ∷ []) ∷ (Ze
 abbrev pub hold_bit_dump : BoundDump
 hold_bit_dump =
     record {
-      times = 0 ∷ 5 ∷ 10 ∷ [];
+      stretches = (0 ∷ 5 ∷ 10 ∷ []) ∷ [];
       bound = λ s. nat_lt s 5;
       round = λ t. 0;
       values = λ t. if nat_le 10 t then hold_bit_values Zero (One ∷ One ∷ []) One else (if nat_le 5 t then hold_bit_values One (One ∷ One ∷ []) One else hold_bit_values Zero (Zero ∷ One ∷ []) Zero);

@@ -46,7 +46,7 @@ latch_values clk en d q y z c = slice_index_or (clk ∷ en ∷ d ∷ q ∷ y ∷
 abbrev pub latch_dump : BoundDump
 latch_dump =
     record {
-      times = 0 ∷ 5 ∷ 10 ∷ 15 ∷ [];
+      stretches = (0 ∷ 5 ∷ 10 ∷ 15 ∷ []) ∷ [];
       bound = λ s. nat_lt s 4;
       round = λ t. 0;
       values = λ t. if nat_le 15 t then latch_values Zero Zero One Zero X X else (if nat_le 10 t then latch_values One Zero One Zero X X else (if nat_le 5 t then latch_values Zero Zero One X X X else latch_values Zero Zero Zero X X X));

@@ -19,3 +19,4 @@ pub mod Ranges
 pub mod Inner
 pub mod PipePoints
 pub mod RamPoints
+pub mod Gap

@@ -37,7 +37,7 @@ loop_values a y c = slice_index_or (a ∷ y ∷ []) c.thing X
 abbrev pub loop_dump : BoundDump
 loop_dump =
     record {
-      times = 0 ∷ 5 ∷ 10 ∷ [];
+      stretches = (0 ∷ 5 ∷ 10 ∷ []) ∷ [];
       bound = λ s. nat_lt s 2;
       round = λ t. 0;
       values = λ t. if nat_le 10 t then loop_values Zero One else (if nat_le 5 t then loop_values One One else loop_values Zero Zero);

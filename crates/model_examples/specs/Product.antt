@@ -45,7 +45,7 @@ product_values a b y c = slice_index_or (a ∷ b ∷ y ∷ []) c.thing X
 abbrev pub product_dump : BoundDump
 product_dump =
     record {
-      times = 0 ∷ 5 ∷ 10 ∷ [];
+      stretches = (0 ∷ 5 ∷ 10 ∷ []) ∷ [];
       bound = λ s. nat_lt s 3;
       round = λ t. 0;
       values = λ t. if nat_le 10 t then product_values Zero Zero Zero else (if nat_le 5 t then product_values One Zero Zero else product_values Zero One Zero);

@@ -46,7 +46,7 @@ pulse_values clk d h q c = slice_index_or (clk ∷ d ∷ h ∷ q ∷ []) c.thing
 abbrev pub pulse_dump : ℕ → BoundDump
 pulse_dump n =
     record {
-      times = 0 ∷ 5 ∷ 10 ∷ [];
+      stretches = (0 ∷ 5 ∷ 10 ∷ []) ∷ [];
       bound = λ s. nat_lt s 4;
       round = λ t. n;
       values = λ t. if nat_le 10 t then pulse_values Zero One Zero One else (if nat_le 5 t then pulse_values One One Zero One else pulse_values Zero One Zero Zero);

@@ -43,7 +43,7 @@ race_values clk d a b c = slice_index_or (clk ∷ d ∷ a ∷ b ∷ []) c.thing 
 abbrev pub race_dump : BoundDump
 race_dump =
     record {
-      times = 0 ∷ 5 ∷ 10 ∷ [];
+      stretches = (0 ∷ 5 ∷ 10 ∷ []) ∷ [];
       bound = λ s. nat_lt s 4;
       round = λ t. 0;
       values = λ t. if nat_le 10 t then race_values Zero One One One else (if nat_le 5 t then race_values One One One One else race_values Zero One Zero Zero);

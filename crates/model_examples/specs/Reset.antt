@@ -42,7 +42,7 @@ reset_values clk rst_n d q c = slice_index_or (clk ∷ rst_n ∷ d ∷ q ∷ [])
 abbrev pub reset_dump : Bit → Bit → BoundDump
 reset_dump before after =
     record {
-      times = 0 ∷ 5 ∷ 10 ∷ [];
+      stretches = (0 ∷ 5 ∷ 10 ∷ []) ∷ [];
       bound = λ s. nat_lt s 4;
       round = λ t. 0;
       values = λ t. if nat_le 10 t then reset_values Zero after One Zero else (if nat_le 5 t then reset_values One after One Zero else reset_values Zero before One Zero);

@@ -36,7 +36,7 @@ rom_values i c = slice_index_or (i ∷ []) c.thing X
 abbrev pub rom_dump : BoundDump
 rom_dump =
     record {
-      times = 0 ∷ 5 ∷ 10 ∷ [];
+      stretches = (0 ∷ 5 ∷ 10 ∷ []) ∷ [];
       bound = λ s. nat_lt s 1;
       round = λ t. 0;
       values = λ t. if nat_le 10 t then rom_values Zero else (if nat_le 5 t then rom_values One else rom_values Zero);

@@ -23,7 +23,7 @@ use Rattle.design_model.specs.Pipe.{pipe, pipe_values}
 abbrev pub settling_dump : BoundDump
 settling_dump =
     record {
-      times = 0 ∷ 5 ∷ 10 ∷ 15 ∷ [];
+      stretches = (0 ∷ 5 ∷ 10 ∷ 15 ∷ []) ∷ [];
       bound = λ s. nat_lt s 4;
       round = λ t. 0;
       values = λ t.

@@ -39,7 +39,7 @@ swap_values clk a b c = slice_index_or (clk ∷ a ∷ b ∷ []) c.thing X
 abbrev pub swap_dump : Bit → BoundDump
 swap_dump b =
     record {
-      times = 0 ∷ 5 ∷ 10 ∷ [];
+      stretches = (0 ∷ 5 ∷ 10 ∷ []) ∷ [];
       bound = λ s. nat_lt s 3;
       round = λ t. 0;
       values = λ t. if nat_le 10 t then swap_values Zero One b else (if nat_le 5 t then swap_values One One b else swap_values Zero Zero One);

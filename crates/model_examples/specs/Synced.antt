@@ -48,7 +48,7 @@ synced_values clk q c = slice_index_or (clk ∷ One ∷ One ∷ One ∷ q ∷ []
 abbrev pub synced_dump : ℕ → BoundDump
 synced_dump n =
     record {
-      times = 0 ∷ 5 ∷ 10 ∷ [];
+      stretches = (0 ∷ 5 ∷ 10 ∷ []) ∷ [];
       bound = λ s. nat_lt s 5;
       round = λ t. n;
       values = λ t. if nat_le 10 t then synced_values Zero One else (if nat_le 5 t then synced_values One One else synced_values Zero Zero);

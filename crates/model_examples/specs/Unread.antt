@@ -28,7 +28,7 @@ words_values clk we wa ra q words c = slice_index_or (slice_index_or ((clk ∷ [
 abbrev pub words_dump : List Bit → List Bit → BoundDump
 words_dump wa ra =
     record {
-      times = 0 ∷ 5 ∷ 10 ∷ 15 ∷ 20 ∷ [];
+      stretches = (0 ∷ 5 ∷ 10 ∷ 15 ∷ 20 ∷ []) ∷ [];
       bound = λ s. nat_lt s 6;
       round = λ t. 0;
       values = λ t.

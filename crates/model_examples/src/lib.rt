@@ -25,6 +25,7 @@ ghost use Rattle.model_examples.specs.RamPoints.{IsRamPointsExample};
 ghost use Rattle.model_examples.specs.Unread.{IsOtherWordExample, IsUnknownWordExample};
 ghost use Rattle.model_examples.specs.Ranges.{IsRangesExample};
 ghost use Rattle.model_examples.specs.Inner.{IsInnerExample};
+ghost use Rattle.model_examples.specs.Gap.{IsGapExample};
 
 /// A register whose clock rises and whose reset falls at one time: its block is not clean, so each point is open and in
 /// doubt, and none is reached.
@@ -152,4 +153,10 @@ pub fn selected_bits()
 /// depends on its input alone.
 pub fn inner_read()
     ensures { IsInnerExample }
+{}
+
+/// A dump that goes off and on: no time from the last of a stretch to the first of the next is in the window, and a combinational
+/// block that has acted before forces its target at the first time of the next.
+pub fn dump_with_gap()
+    ensures { IsGapExample }
 {}

@@ -44,7 +44,8 @@ use Rattle.design_model.proofs.SettledHits.{settling_level}
 use Rattle.design_model.proofs.Sound.{IsSeen}
 use Rattle.design_model.proofs.StepFacts.{facts_law}
 use Rattle.design_model.proofs.StepLaws.{StepLaws}
-use Rattle.design_model.proofs.Toggles.{end_values, start_values, window_shown_at}
+use Rattle.design_model.proofs.Stretches.{window_shown_at}
+use Rattle.design_model.proofs.Toggles.{end_values, start_values}
 use Rattle.design_model.proofs.WithinMap.{execution_same}
 use Rattle.design_model.proofs.Untouched.{put_other}
 use Rattle.design_model.proofs.VisitedOpen.{visited_open}
@@ -89,7 +90,7 @@ no_outer s (y ∷ xs) a (inr h) = no_outer s xs a.1 h
 -- a run that shows the dump, over a window time
 module _ (d : Design) (lawful : IsLawfulDesign d) (h : Habit) (laws : StepLaws (machine d) h) (dump : BoundDump) (fits : IsDumpOf d dump) (t : ℕ) (window : IsWindow dump (suc t)) (r : Run) (is_run : IsRun d h r) (shows : Shows d dump r) where
   shown : IsShown dump t × IsShown dump (suc t)
-  shown = window_shown_at dump.times t window
+  shown = window_shown_at dump.stretches t window
 
   up_to : ShowsUpTo d dump r (suc t)
   up_to = record { starts = shows.starts; shows = λ u seen before. shows.shows u seen }

@@ -11,7 +11,7 @@ use Rattle.design_model.proofs.BlockVisits.{hit_visit, visit_hit}
 use Rattle.design_model.proofs.DecidedClocked.{decided_block, no_time_hit}
 use Rattle.design_model.proofs.DecidedSignals.{signal_decided_law}
 use Rattle.design_model.proofs.StepLaws.{StepLaws}
-use Rattle.design_model.proofs.Toggles.{no_window_at}
+use Rattle.design_model.proofs.Stretches.{no_window_at}
 use Rattle.model_laws.specs.Decided.{DecidedLaw}
 use Rattle.model_laws.proofs.DecidedBlocks.{settled_block}
 
@@ -21,7 +21,7 @@ clocked_or (comb i wakes s) = inr (λ k. k)
 clocked_or (clocked i events s) = inl tt
 
 block_decided : (d : Design) (h : Habit) → IsLawfulDesign d → StepLaws (machine d) h → (x : Point) → IsBlockPoint d x → IsDecided d h x
-block_decided d h lawful laws x point dump r q fits r_run q_run r_shows q_shows zero window none hit other = no_window_at dump.times window
+block_decided d h lawful laws x point dump r q fits r_run q_run r_shows q_shows zero window none hit other = no_window_at dump.stretches window
 block_decided d h lawful laws x point dump r q fits r_run q_run r_shows q_shows (suc t) window none (inr a) other = no_time_hit d x point r (suc t) a.1
 block_decided d h lawful laws x point dump r q fits r_run q_run r_shows q_shows (suc t) window none (inl k) other =
     let o = hit_visit d r k.0 x point k.2 in

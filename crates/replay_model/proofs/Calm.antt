@@ -16,7 +16,7 @@ use Rattle.design_model.specs.MayMove.{CanWakeSome}
 use Rattle.design_model.specs.Shows.{BoundDump, IsShown, IsWindow}
 use Rattle.design_model.specs.Clear.{clear}
 use Rattle.design_model.proofs.Lawful.{same_bit_is}
-use Rattle.design_model.proofs.Toggles.{window_shown_at}
+use Rattle.design_model.proofs.Stretches.{window_shown_at}
 use Rattle.replay_model.proofs.AskedLaws.{AskedLaws}
 use Rattle.body_replay.specs.Contract.{sure_in}
 use Rattle.body_replay.specs.Replay.{flush}
@@ -37,7 +37,7 @@ module _ (h : Habit) (d : Design) (dump : BoundDump) (run : Runs) (tables : Tabl
   st = closing_at d dump run tables sets t a
 
   shown : IsShown dump t × IsShown dump (suc t)
-  shown = window_shown_at dump.times t window
+  shown = window_shown_at dump.stretches t window
 
   back : suc t - 1 ≡ t
   back = omega arith

@@ -69,7 +69,7 @@ module _ (d : Design) (h : Habit) (dump : BoundDump) (run : Runs) (tables : Tabl
 
   -- the moment before, a hidden time too
   window_before : IsWindow dump e
-  window_before = window_of dump (suc t) e later hidden
+  window_before = window_of dump is.fits.rising (suc t) e later hidden
 
   hidden_before : IsHiddenOn dump (suc t) e
   hidden_before = hidden_to dump (suc t) e later hidden window_before

@@ -19,7 +19,7 @@ use Rattle.design_model.proofs.Assigns.{machine_lawful}
 use Rattle.design_model.proofs.Lawful.{same_bit_is}
 use Rattle.design_model.proofs.Mentions.{execute_reads}
 use Rattle.design_model.proofs.WithinMap.{put_covered, within_by}
-use Rattle.design_model.proofs.Toggles.{window_shown_at}
+use Rattle.design_model.proofs.Stretches.{window_shown_at}
 use Rattle.replay_model.proofs.AskedLaws.{AskedLaws}
 use Rattle.body_replay.specs.Contract.{all_written, sure_in}
 use Rattle.body_replay.specs.Replay.{flush}
@@ -62,7 +62,7 @@ module _ (h : Habit) (d : Design) (dump : BoundDump) (run : Runs) (tables : Tabl
   start_dumped : (c : Cell) → is_dumped d dump.bound c ≡ true → a.kept c ≡ Some (dump.values t c)
   start_dumped c has =
       let b = and_parts (dump.bound c.thing) _ has in
-      sure_at a.kept (dump.values t) (signal_cells d c.thing) (at_start (a_signal c.thing) (signal_bits d (dump.values t) c.thing) (bound_clear d h dump t c.thing (window_shown_at dump.times t window).0 b.0 (is.fits.signals c.thing b.0))) c (signal_has d c (Rattle.std.proofs.lemmas.Bool.ltb-true _ _ b.1))
+      sure_at a.kept (dump.values t) (signal_cells d c.thing) (at_start (a_signal c.thing) (signal_bits d (dump.values t) c.thing) (bound_clear d h dump t c.thing (window_shown_at dump.stretches t window).0 b.0 (is.fits.signals c.thing b.0))) c (signal_has d c (Rattle.std.proofs.lemmas.Bool.ltb-true _ _ b.1))
 
   -- what the Clocked and the Assigns and Combs that run do not write stays
   undumped_same : (c : Cell) → is_dumped d dump.bound c ≡ false → ((q : ℕ) → IsTarget (machine d) q c → (is_touched st q ≡ true) ⊎ Rattle.design_model.specs.MayMove.CanWakeSome d dump (suc t) q → ⊥) → final c ≡ a.kept c

@@ -1,5 +1,5 @@
 -- An execution on values that agree with the settled ones on the wake cells of a process visits what one does that the store allows.
-use Rattle.std.proofs.Common.{◌≡◌, ◌⊎◌, ⊎_elim, ℕ, true, false, ◌&&◌, refl, sym, subst, None, if◌then◌else◌}
+use Rattle.std.proofs.Common.{◌≡◌, ⊎_elim, ℕ, true, false, ◌&&◌, refl, sym, subst, None, if◌then◌else◌}
 use Rattle.std.proofs.lemmas.Bool.{and_cases, both_ways, cases_Bool, false_from_ne_true}
 use Rattle.event_machine.specs.Cell.{Cell, Values}
 use Rattle.event_machine.specs.Machine.{IsWakeCell}

@@ -1,5 +1,5 @@
 -- What is clear is sure after a closing step, what it tells is reasoned, and so are the verdicts.
-use Rattle.std.proofs.Common.{◌≡◌, inl, inr, ⊎_elim, ℕ, suc, ◌≤◌, true, false, List, [], ◌∷◌, ◌++◌, refl, sym, subst, ◌∙◌, arith}
+use Rattle.std.proofs.Common.{◌≡◌, ◌⊎◌, inl, inr, ⊎_elim, ℕ, suc, true, false, List, [], ◌∷◌, ◌++◌, refl, sym, subst, ◌∙◌, arith}
 use Rattle.std.proofs.lemmas.Bool.{cases_Bool, cases_eq}
 use Rattle.event_machine.proofs.Least.{early_law}
 use Rattle.event_machine.specs.Cell.{Cell}
@@ -11,6 +11,10 @@ use Rattle.design_model.specs.Machine.{machine}
 use Rattle.design_model.specs.Shows.{BoundDump, IsListed, IsShowing, IsWindow, Shows}
 use Rattle.design_model.specs.Clear.{clear}
 use Rattle.design_model.specs.Doubt.{IsInDoubt}
+use Rattle.design_model.specs.Lawful.{IsLawfulDesign}
+use Rattle.design_model.specs.MayMove.{AreLastRounds}
+use Rattle.design_model.specs.Open.{IsReached}
+use Rattle.design_model.specs.Points.{IsHitAt}
 use Rattle.design_model.specs.Run.{IsRun, Run}
 use Rattle.body_replay.specs.Contract.{Doubted, sure_in}
 use Rattle.body_replay.specs.Runs.{Runs}
@@ -19,14 +23,13 @@ use Rattle.replay_model.specs.Marks.{IsDoubtMarked, IsHitMarked, Marking}
 use Rattle.replay_model.specs.Step.{Replay, all_run, contradicts, is_touched}
 use Rattle.replay_model.specs.Sets.{AreSets, Sets}
 use Rattle.replay_model.specs.Stands.{AreKnown, AreReasoned, IsMade}
-use Rattle.hidden_times.specs.Hidden.{IsSameTime}
+use Rattle.hidden_times.specs.Hidden.{IsAnyDumpOf, IsSameTime}
 use Rattle.hidden_times.proofs.Clear.{changed_before, shrink_law}
 use Rattle.hidden_times.proofs.Doubts.{same_doubt_law}
-use Rattle.hidden_times.proofs.Jump.{shows_before}
 use Rattle.hidden_times.proofs.Quiet.{no_reach_law}
 use Rattle.replay_model.proofs.Grows.{sample, sample_agrees}
 use Rattle.replay_model.proofs.AskedLaws.{AskedLaws, asked_of}
-use Rattle.replay_model.specs.Laws.{IsReplayOf, ReasonedVerdictLaw, RestForcedLaw, RestKnownLaw, RestReasonedLaw, StepKnownLaw, StepReasonedLaw, closed_at, closing_at}
+use Rattle.replay_model.specs.Laws.{AreReasonedVerdicts, IsReplayOf, ReasonedVerdictLaw, RestForcedLaw, RestKnownLaw, RestReasonedLaw, StepKnownLaw, StepReasonedLaw, closed_at, closing_at}
 use Rattle.replay_model.proofs.Bits.{in_left}
 use Rattle.replay_model.proofs.Calm.{calm_dumped}
 use Rattle.replay_model.proofs.ClearClocked.{unwoken_sure, written_sure}
@@ -35,6 +38,7 @@ use Rattle.replay_model.proofs.MadeNow.{find, made_touched, starts}
 use Rattle.replay_model.proofs.Order.{final_dumped}
 use Rattle.replay_model.proofs.MadeRest.{has_acted_now, made_untouched, untouched_acted}
 use Rattle.replay_model.proofs.Settling.{is_comb-from}
+use Rattle.replay_model.proofs.Showing.{shows_to}
 use Rattle.replay_model.proofs.Tells.{doubt_step, kept_told, reached_step}
 use Rattle.replay_model.proofs.Trace.{hit_in, in_hit}
 
@@ -112,23 +116,24 @@ rest_known_law d h dump run tables points is own t a window unlisted known =
 pub rest_forced_law : RestForcedLaw
 rest_forced_law d h dump t unlisted before u s bits le forced = ⊎_elim (λ e. absurd (unlisted (subst (IsListed dump) e forced.is_listed))) (λ ne. before u s bits (omega (arith, le, ne)) forced) (cases_eq u (suc t))
 
--- the reasoned verdicts
-pub reasoned_verdict_law : ReasonedVerdictLaw
-reasoned_verdict_law d h dump points t a lawful any rounds ends shown sound told_all =
+-- verdicts are reasoned where the doubts that were reported are doubts, what is hit was reported, and so was what is reached
+pub verdicts_reasoned : (d : Design) (h : Habit) (dump : BoundDump) (points : List Point) (a : Replay) → IsLawfulDesign d → IsAnyDumpOf d dump → AreLastRounds d dump
+    → ((x : Point) (y : Doubted) → IsDoubtMarked d x y a.notes → IsWindow dump y.time × IsInDoubt d h dump x y.time y.thing)
+    → ((x : Point) → In x points → (r : Run) → IsRun d h r → Shows d dump r → (u : ℕ) → IsWindow dump u → IsHitAt d dump r x u → IsHitMarked d x a.notes ⊎ ((y : Doubted) × IsSameTime dump y.time u × IsDoubtMarked d x y a.notes))
+    → ((u p : ℕ) (x : Point) → IsReached d h dump u p x → IsHitMarked d x a.notes)
+    → AreReasonedVerdicts d h dump points a
+verdicts_reasoned d h dump points a lawful any rounds doubts marked reached =
     record {
-      doubted = λ x y verdict. let k = told_all.doubts x y (first_doubt x y verdict) in (k.0, k.2);
+      doubted = λ x y verdict. doubts x y (first_doubt x y verdict);
       decided = λ x y member verdict r is_run shows u window none hit.
-          ⊎_elim (λ reasoned. verdict.0 reasoned) (λ s. same_time x s.0.time u s.0.thing r (showing r is_run shows) s.1 (ends u window) (told_all.doubts x s.0 s.2).2 none) (sound.marked x member r t (inl refl) (showing r is_run shows) u window (ends u window) hit);
-      reached = λ u p x reached. told_all.reached u p x (ends u reached.0) reached;
+          ⊎_elim (λ reasoned. verdict.0 reasoned) (λ s. same_time x s.0.time u s.0.thing r (shows_to d h dump u r is_run shows) s.1 (doubts x s.0 s.2).1 none) (marked x member r is_run shows u window hit);
+      reached = reached;
     }
   where
-    showing : (r : Run) → IsRun d h r → Shows d dump r → IsShowing d h dump t r
-    showing r is_run shows = record { is_run = is_run; shows = record { starts = shows.starts; shows = λ v is_shown le. shows.shows v is_shown } }
-
     -- a doubt at a time that is the same leaves one at this time
-    same_time : (x : Point) (w u s : ℕ) (r : Run) → IsShowing d h dump t r → IsSameTime dump w u → u ≤ t → IsInDoubt d h dump x w s → ((q : ℕ) → IsInDoubt d h dump x u q → ⊥) → ⊥
-    same_time x w u s r now (inl e) le doubt none = none s (subst (λ z. IsInDoubt d h dump x z s) (sym e) doubt)
-    same_time x w u s r now (inr hidden) le doubt none = same_doubt_law d h lawful dump any rounds r w u hidden (shows_before d h dump u t r le now) x s doubt none
+    same_time : (x : Point) (w u s : ℕ) (r : Run) → IsShowing d h dump u r → IsSameTime dump w u → IsInDoubt d h dump x w s → ((q : ℕ) → IsInDoubt d h dump x u q → ⊥) → ⊥
+    same_time x w u s r now (inl e) doubt none = none s (subst (λ z. IsInDoubt d h dump x z s) (sym e) doubt)
+    same_time x w u s r now (inr hidden) doubt none = same_doubt_law d h lawful dump any rounds r w u hidden now x s doubt none
 
     in_middle : (before : List Marking) (n : Marking) (after : List Marking) → In n (before ++ n ∷ after)
     in_middle [] n after = inl refl
@@ -136,6 +141,12 @@ reasoned_verdict_law d h dump points t a lawful any rounds ends shown sound told
 
     first_doubt : (x : Point) (y : Doubted) → Rattle.replay_model.specs.Marks.IsVerdict d x a.notes (Rattle.replay_model.specs.Marks.Undetermined y) → IsDoubtMarked d x y a.notes
     first_doubt x y v = Rattle.replay_model.proofs.Trace.in_doubt d x y a.notes v.1.1 (subst (In v.1.1) (sym v.1.3) (in_middle v.1.0 v.1.1 v.1.2)) v.1.5 v.1.6
+
+pub reasoned_verdict_law : ReasonedVerdictLaw
+reasoned_verdict_law d h dump points t a lawful any rounds ends shown sound told_all =
+    verdicts_reasoned d h dump points a lawful any rounds (λ x y told. let k = told_all.doubts x y told in (k.0, k.2))
+    (λ x member r is_run shows u window hit. sound.marked x member r t (inl refl) (shows_to d h dump t r is_run shows) u window (ends u window) hit)
+    (λ u p x reached. told_all.reached u p x (ends u reached.0) reached)
 
 pub step_known_law : (h : Habit) → StepKnownLaw h
 step_known_law h d dump run tables points is own = step_known h d dump run tables points is (asked_of d is.lawful own)

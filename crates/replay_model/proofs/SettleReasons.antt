@@ -29,7 +29,7 @@ use Rattle.body_replay.specs.Runs.{HasDoubtNote, Runs}
 use Rattle.body_replay.specs.Store.{Kept}
 use Rattle.replay_model.specs.Sets.{AreSets, Sets}
 use Rattle.design_model.specs.BodyLaws.{all_cells, word_indexes, words_cells}
-use Rattle.design_model.proofs.Toggles.{window_shown_at}
+use Rattle.design_model.proofs.Stretches.{window_shown_at}
 use Rattle.replay_model.specs.Tables.{Tables}
 use Rattle.replay_model.specs.Step.{Closing, Replay, all_run, certainty, first_unsure, has_changed, is_comb, is_dumped, is_still, plain_store, settled_kept, surely_differ, surely_same, wake_cells}
 use Rattle.replay_model.specs.Laws.{IsReplayOf, closing_at}
@@ -166,11 +166,11 @@ module _ (d : Design) (h : Habit) (early_law : EarlyLaw (machine d)) (dump : Bou
         c = changed.0
 
         shown : IsShown dump t × IsShown dump (suc t)
-        shown = window_shown_at dump.times t window
+        shown = window_shown_at dump.stretches t window
 
         before : a.kept changed.0 ≡ Some (dump.values t changed.0)
         before =
-            sure_at a.kept (dump.values t) (signal_cells d changed.0.thing) (at_start (a_signal changed.0.thing) (signal_bits d (dump.values t) changed.0.thing) (bound_clear d h dump t changed.0.thing (window_shown_at dump.times t window).0 changed.2 changed.1.0)) changed.0
+            sure_at a.kept (dump.values t) (signal_cells d changed.0.thing) (at_start (a_signal changed.0.thing) (signal_bits d (dump.values t) changed.0.thing) (bound_clear d h dump t changed.0.thing (window_shown_at dump.stretches t window).0 changed.2 changed.1.0)) changed.0
             (signal_has d changed.0 changed.1.1)
 
         after : k.wk.kept changed.0 ≡ Some (dump.values (suc t) changed.0)

@@ -1,7 +1,7 @@
 -- The replay is sound: after the first step, after each closing step and over each time that the dump does not list; a
 -- contradiction is one; and so hit is hit and missed is never hit.
 use Rattle.std.proofs.Common.{◌≡◌, ◌⊎◌, inl, inr, ⊎_elim, ℕ, zero, suc, ◌+◌, ◌-◌, ◌<◌, ◌≤◌, true, false, List, [], ◌∷◌, ◌++◌, refl, sym, ap, subst, ◌∙◌, arith, Some, None}
-use Rattle.std.proofs.lemmas.Bool.{both_ways, cases_eq, cases_lt}
+use Rattle.std.proofs.lemmas.Bool.{cases_eq, cases_lt}
 use Rattle.event_machine.proofs.Least.{early_law}
 use Rattle.event_machine.specs.Cell.{Values}
 use Rattle.event_machine.specs.Event.{end_state}
@@ -18,13 +18,14 @@ use Rattle.design_model.specs.Execution.{Visit}
 use Rattle.design_model.specs.Machine.{machine}
 use Rattle.design_model.specs.Run.{IsRun, Run, StepOf, end_of, evaluations_of, settled, start_of}
 use Rattle.design_model.specs.Scored.{IsScoredOf, VisitsIn}
-use Rattle.design_model.specs.Shows.{BoundDump, IsFirstOf, IsListed, IsShowing, IsWindow, IsWindowOf, Shows}
+use Rattle.design_model.specs.Shows.{AreStretches, BoundDump, InSome, IsFirst, IsListed, IsShowing, IsWindow, IsWindowOf, Shows}
 use Rattle.design_model.specs.Points.{HitIn, IsHit, IsHitAt}
 use Rattle.design_model.proofs.Assigns.{machine_lawful}
 use Rattle.design_model.proofs.StepLaws.{StepLaws, step_laws}
 use Rattle.design_model.specs.StepLaws.{IsLeft}
 use Rattle.design_model.proofs.StepFacts.{unlisted_law}
 use Rattle.design_model.specs.StillLaw.{BindsInputs}
+use Rattle.design_model.proofs.Stretches.{window_before_first, window_not_first}
 use Rattle.hidden_times.specs.Hidden.{IsHiddenOn, IsSameTime}
 use Rattle.hidden_times.proofs.Clear.{hidden_to, window_of}
 use Rattle.hidden_times.proofs.Listed.{any_dump_law}
@@ -39,7 +40,7 @@ use Rattle.replay_model.specs.Marks.{IsKeyOf, IsDoubtMarked, IsHitMarked, IsUnma
 use Rattle.replay_model.specs.Step.{Replay, all_point_notes, all_run}
 use Rattle.replay_model.specs.Start.{started}
 use Rattle.replay_model.specs.Stands.{IsSound}
-use Rattle.replay_model.specs.Laws.{ContradictionLaw, FirstContradictionLaw, FirstSoundLaw, IsReplayOf, RestSoundLaw, SoundVerdictLaw, StepSoundLaw, closed_at, closing_at}
+use Rattle.replay_model.specs.Laws.{AreSoundVerdicts, ContradictionLaw, FirstContradictionLaw, FirstSoundLaw, IsReplayOf, RestSoundLaw, SoundVerdictLaw, StepSoundLaw, closed_at, closing_at}
 use Rattle.replay_model.proofs.Allows.{contradicts_none}
 use Rattle.replay_model.proofs.Bits.{in_halves, in_left, in_right}
 use Rattle.replay_model.proofs.BodyComplete.{body_marked}
@@ -48,6 +49,7 @@ use Rattle.replay_model.proofs.FirstStep.{first_contradicts_none, first_sound}
 use Rattle.replay_model.proofs.HiddenMarks as hidden_marks
 use Rattle.replay_model.proofs.Jumps.{no_earlier}
 use Rattle.replay_model.proofs.Jumps as jumps
+use Rattle.replay_model.proofs.Showing.{earlier, shows_to}
 use Rattle.replay_model.proofs.SignalPoints.{PointNow, in_point_notes, note_key, point_hit, point_marked, point_notes_in}
 use Rattle.replay_model.proofs.Trace.{doubt_in, hit_in, in_doubt, in_hit}
 use Rattle.replay_model.proofs.Unknown.{first_input, kept_input}
@@ -55,37 +57,34 @@ use Rattle.replay_model.proofs.Unknown.{first_input, kept_input}
 abbrev the_laws : (d : Design) → IsLawful (machine d) → (h : Habit) → StepLaws (machine d) h
 the_laws d lawful h = step_laws (machine d) lawful h
 
--- a run that shows the dump up to a time shows it up to an earlier one
-earlier : (d : Design) (h : Habit) (dump : BoundDump) (t u : ℕ) (r : Run) → u ≤ t → IsShowing d h dump t r → IsShowing d h dump u r
-earlier d h dump t u r le showing = record { is_run = showing.is_run; shows = record { starts = showing.shows.starts; shows = λ s shown before. showing.shows.shows s shown (omega (arith, before, le)) } }
-
 pub contradiction_law : (h : Habit) → ContradictionLaw h
 contradiction_law h d dump run tables points is t sets a c window are sound e r showing =
     contradicts_none d h dump run tables points is (step_laws (machine d) (machine_lawful d is.lawful) h) (early_law (machine d)) t window sets are a r showing (sound.allows r t (inl refl) (earlier d h dump (suc t) t r (omega arith) showing)) (sound.acted r t (inl refl) (earlier d h dump (suc t) t r (omega arith) showing)) sound.unknown c e
 
 pub first_contradiction_law : FirstContradictionLaw
-first_contradiction_law d h dump run tables points is t c first shown e r showing = first_contradicts_none d h dump run tables points is (step_laws (machine d) (machine_lawful d is.lawful) h) t shown r showing c e
+first_contradiction_law d h dump run tables points is t a c first shown paused e r showing =
+    first_contradicts_none d h dump run tables points is (step_laws (machine d) (machine_lawful d is.lawful) h) t a paused.acted shown r showing c e
 
--- before its first time a dump has no window
-first_window : (times : List ℕ) (t u : ℕ) → IsFirstOf times t → u ≤ t → IsWindowOf times u → ⊥
-first_window [] t u first le window = first
-first_window (x ∷ xs) t u first le window = omega (arith, first, le, window.0)
-
--- so no other time is the same as its first
-first_alone : (dump : BoundDump) (t : ℕ) → IsFirstOf dump.times t → (v : ℕ) → IsSameTime dump t v → v ≡ t
-first_alone dump t first v (inl e) = e
-first_alone dump t first v (inr hidden) = absurd (first_window dump.times t t first (omega arith) hidden.first)
+-- no other time is the same as the first of a stretch
+first_alone : (dump : BoundDump) → AreStretches dump.stretches → (t : ℕ) → IsFirst dump t → (v : ℕ) → IsSameTime dump t v → v ≡ t
+first_alone dump order t first v (inl e) = e
+first_alone dump order t first v (inr hidden) = absurd (window_not_first dump.stretches t order first hidden.first)
 
 pub first_sound_law : FirstSoundLaw
-first_sound_law d h dump run tables points is t first shown =
+first_sound_law d h dump run tables points is t a first shown paused =
     record {
       allows = λ r v same showing.
-          let e = first_alone dump t first v same in
-          subst (λ u. AllowsState (started d dump.bound run tables (dump.values t)).kept (settled d r u)) (sym e) (first_sound d h dump run tables points is (step_laws (machine d) (machine_lawful d is.lawful) h) t shown r (subst (λ u. IsShowing d h dump u r) e showing)).allowed;
-      acted = λ r v same showing p comb' e. absurd (both_ways false refl e);
-      hits = λ x told r showing. absurd told;
-      marked = λ x member r v same showing u window le hit. let e = first_alone dump t first v same in absurd (first_window dump.times t u first (omega (arith, le, e)) window);
-      unknown = λ c input free. first_input d is.lawful dump.bound run tables (dump.values t) c input free;
+          let e = first_alone dump is.fits.rising t first v same in
+          subst (λ u. AllowsState (started d dump.bound run tables (dump.values t) a).kept (settled d r u)) (sym e)
+          (first_sound d h dump run tables points is (step_laws (machine d) (machine_lawful d is.lawful) h) t a paused.acted shown r (subst (λ u. IsShowing d h dump u r) e showing)).allowed;
+      acted = λ r v same showing p is_comb e.
+          let at = first_alone dump is.fits.rising t first v same in
+          subst (λ u. IsLeft d p (settled d r u)) (sym at) (paused.acted r (subst (λ u. IsShowing d h dump u r) at showing) p is_comb e);
+      hits = λ x told r showing. let k = paused.hits x told r showing in let before = k.2 in (k.0, k.1, omega (arith, before), k.3);
+      marked = λ x member r v same showing u window le hit.
+          let e = first_alone dump is.fits.rising t first v same in
+          paused.marked x member r (subst (λ u. IsShowing d h dump u r) e showing) u window (window_before_first dump.stretches t u is.fits.rising first window (omega (arith, le, e))) hit;
+      unknown = λ c input free. first_input d is.lawful dump.bound run tables (dump.values t) a c input free;
     }
 
 -- the points of bodies, and those on signals
@@ -246,9 +245,15 @@ module _ (d : Design) (h : Habit) (dump : BoundDump) (run : Runs) (tables : Tabl
   no_hit (word_point m i false) member k at hit = no_visits k at hit.0 _ hit.2
 
 -- a time of the window that is not listed, after one that is not, is of hidden times with it
-window_hidden : (ts : List ℕ) (t : ℕ) → IsWindowOf ts (suc t) → (In t ts → ⊥) → IsWindowOf ts t
+one_hidden : (ts : List ℕ) (t : ℕ) → IsWindowOf ts (suc t) → (In t ts → ⊥) → IsWindowOf ts t
+one_hidden [] t window unlisted = window
+one_hidden (u ∷ us) t window unlisted = ⊎_elim (λ e. absurd (unlisted (inl e))) (λ other. (omega (arith, window.0, other), omega (arith, window.1))) (cases_eq u t)
+
+window_hidden : (tss : List (List ℕ)) (t : ℕ) → InSome (λ ts. IsWindowOf ts (suc t)) tss → (InSome (In t) tss → ⊥) → InSome (λ ts. IsWindowOf ts t) tss
 window_hidden [] t window unlisted = window
-window_hidden (u ∷ us) t window unlisted = ⊎_elim (λ e. absurd (unlisted (inl e))) (λ other. (omega (arith, window.0, other), omega (arith, window.1))) (cases_eq u t)
+window_hidden (ts ∷ []) t window unlisted = one_hidden ts t window unlisted
+window_hidden (ts ∷ us ∷ tss) t (inl window) unlisted = inl (one_hidden ts t window (λ on. unlisted (inl on)))
+window_hidden (ts ∷ us ∷ tss) t (inr window) unlisted = inr (window_hidden (us ∷ tss) t window (λ on. unlisted (inr on)))
 
 hidden_alone : (dump : BoundDump) (t : ℕ) → IsWindow dump t → (IsListed dump t → ⊥) → IsHiddenOn dump t t
 hidden_alone dump t window unlisted = record { later = omega arith; first = window; last = window; none = λ u after within on. unlisted (subst (IsListed dump) (same u after within) on) }
@@ -282,7 +287,7 @@ module _ (d : Design) (h : Habit) (dump : BoundDump) (run : Runs) (tables : Tabl
       let on : IsHiddenOn dump (suc t) (suc (n + suc t)) = subst (IsHiddenOn dump (suc t)) at hidden in
       let here : IsShowing d h dump (suc (n + suc t)) r = subst (λ u. IsShowing d h dump u r) at showing in
       ap (settled d r) at ∙ same_settled d h dump run tables points is inputs (n + suc t) on.last (on.none (suc (n + suc t)) on.later (omega arith)) r here
-      ∙ stays_by n (n + suc t) refl (hidden_to dump (suc t) (n + suc t) le on (window_of dump (suc t) (n + suc t) le on)) (earlier d h dump (suc (n + suc t)) (n + suc t) r (omega arith) here)
+      ∙ stays_by n (n + suc t) refl (hidden_to dump (suc t) (n + suc t) le on (window_of dump is.fits.rising (suc t) (n + suc t) le on)) (earlier d h dump (suc (n + suc t)) (n + suc t) r (omega arith) here)
 
   stays : (v : ℕ) → IsHiddenOn dump (suc t) v → IsShowing d h dump v r → settled d r v ≡ settled d r t
   stays v hidden showing =
@@ -297,7 +302,7 @@ module _ (d : Design) (h : Habit) (dump : BoundDump) (run : Runs) (tables : Tabl
 
 pub rest_sound_law : RestSoundLaw
 rest_sound_law d h dump run tables points is t a (inr unlisted_before) window unlisted sound =
-    let in_window : IsWindow dump t = window_hidden dump.times t window unlisted_before in
+    let in_window : IsWindow dump t = window_hidden dump.stretches t window unlisted_before in
     let on : (v : ℕ) → IsSameTime dump (suc t) v → IsSameTime dump t v = λ v same. inr (hidden_from dump t v in_window unlisted_before (all_hidden dump (suc t) v window unlisted same)) in
     record {
       allows = λ r v same showing. sound.allows r v (on v same) showing;
@@ -337,17 +342,23 @@ at_hit : (d : Design) (dump : BoundDump) (r : Run) (x : Point) → IsHit d dump 
 at_hit d dump r x (inl k) = (k.0.step.time, k.1, inl (k.0, refl, k.2))
 at_hit d dump r x (inr k) = (k.0, k.1, inr (k.2, k.3))
 
-pub sound_verdict_law : SoundVerdictLaw
-sound_verdict_law d h dump points t a ends shown sound =
+-- verdicts are sound where what was reported to be hit is hit in each run that shows the dump, and what is hit in one was reported
+pub verdicts_sound : (d : Design) (h : Habit) (dump : BoundDump) (points : List Point) (a : Replay)
+    → ((x : Point) → IsHitMarked d x a.notes → (r : Run) → IsRun d h r → Shows d dump r → (u : ℕ) × IsWindow dump u × IsHitAt d dump r x u)
+    → ((x : Point) → In x points → (r : Run) → IsRun d h r → Shows d dump r → (u : ℕ) → IsWindow dump u → IsHitAt d dump r x u → IsHitMarked d x a.notes ⊎ ((y : Doubted) × IsSameTime dump y.time u × IsDoubtMarked d x y a.notes))
+    → AreSoundVerdicts d h dump points a
+verdicts_sound d h dump points a hits marked =
     record {
-      hit = λ x told r is_run shows. let k = sound.hits x told r (showing r is_run shows) in hit_at d dump r x k.0 k.1 k.3;
+      hit = λ x told r is_run shows. let k = hits x told r is_run shows in hit_at d dump r x k.0 k.1 k.2;
       missed = λ x member none r is_run shows hit.
           let k = at_hit d dump r x hit in
-          ⊎_elim (λ e. let n = hit_in d x a.notes e in untold_none d x a.notes none n.0 n.1 n.2) (λ e. let n = doubt_in d x e.0 a.notes e.2 in untold_none d x a.notes none n.0 n.1 n.2) (sound.marked x member r t (inl refl) (showing r is_run shows) k.0 k.1 (ends k.0 k.1) k.2);
+          ⊎_elim (λ e. let n = hit_in d x a.notes e in untold_none d x a.notes none n.0 n.1 n.2) (λ e. let n = doubt_in d x e.0 a.notes e.2 in untold_none d x a.notes none n.0 n.1 n.2) (marked x member r is_run shows k.0 k.1 k.2);
     }
-  where
-    showing : (r : Run) → IsRun d h r → Shows d dump r → IsShowing d h dump t r
-    showing r is_run shows = record { is_run = is_run; shows = record { starts = shows.starts; shows = λ s is_shown le. shows.shows s is_shown } }
+
+pub sound_verdict_law : SoundVerdictLaw
+sound_verdict_law d h dump points t a ends shown sound =
+    verdicts_sound d h dump points a (λ x told r is_run shows. let k = sound.hits x told r (shows_to d h dump t r is_run shows) in (k.0, k.1, k.3))
+    (λ x member r is_run shows u window hit. sound.marked x member r t (inl refl) (shows_to d h dump t r is_run shows) u window (ends u window) hit)
 
 pub step_sound_law : (h : Habit) → StepSoundLaw h
 step_sound_law h d dump run tables points is own t sets a window are sound = step_sound h d dump run tables points is (asked_of d is.lawful own) t sets a window are sound

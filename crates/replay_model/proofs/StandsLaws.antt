@@ -1,19 +1,25 @@
 -- All that holds of a replay holds after its first step, and each closing step and each time that the dump does not list keep it.
+use Rattle.std.proofs.Common.{arith}
 use Rattle.event_machine.specs.Habit.{Habit}
+use Rattle.design_model.proofs.Stretches.{window_before_first}
 use Rattle.replay_model.specs.Laws.{FirstStandsLaw, RestStandsLaw, StepStandsLaw}
 use Rattle.replay_model.proofs.FirstForced.{first_forced_law}
-use Rattle.replay_model.proofs.FirstKnown.{first_known_law, not_window}
+use Rattle.replay_model.proofs.FirstKnown.{first_known_law}
 use Rattle.replay_model.proofs.ReasonedLaws.{rest_forced_law, rest_known_law, rest_reasoned_law, step_known_law, step_reasoned_law}
 use Rattle.replay_model.proofs.SoundLaws.{first_sound_law, rest_sound_law, step_sound_law}
 use Rattle.replay_model.proofs.StepForced.{step_forced_law}
 
 pub first_stands_law : FirstStandsLaw
-first_stands_law d h dump run tables points is own t first shown agreed =
+first_stands_law d h dump run tables points is own t a first shown paused agreed =
     record {
-      sound = first_sound_law d h dump run tables points is t first shown;
-      known = first_known_law d h dump run tables points is own t first shown agreed;
-      reasoned = record { doubts = λ x y none. absurd none; reached = λ u p x le reached. absurd (not_window dump.times t u first reached.0 le) };
-      forced = first_forced_law d h dump run tables points is own t first shown agreed;
+      sound = first_sound_law d h dump run tables points is t a first shown paused;
+      known = first_known_law d h dump run tables points is own t a first shown paused agreed;
+      reasoned =
+          record {
+            doubts = λ x y told. let k = paused.doubts x y told in let before = k.1 in (k.0, omega (arith, before), k.2);
+            reached = λ u p x le reached. paused.reached u p x (window_before_first dump.stretches t u is.fits.rising first reached.0 le) reached;
+          };
+      forced = first_forced_law d h dump run tables points is own t a first shown paused agreed;
     }
 
 pub step_stands_law : (h : Habit) → StepStandsLaw h

@@ -9,7 +9,7 @@ use Rattle.design_model.specs.declared.point.Point.{Point}
 use Rattle.design_model.specs.Design.{Design, In, a_signal, signal_at, signal_bits, signal_cells}
 use Rattle.design_model.specs.Machine.{machine}
 use Rattle.design_model.specs.Shows.{BoundDump, IsWindow}
-use Rattle.design_model.specs.Clear.{IsForcedBy, IsWrittenValue, at_first, by_clocked, by_comb, by_net, clear, unmoved}
+use Rattle.design_model.specs.Clear.{IsForcedBy, IsWrittenValue, at_first, by_clocked, by_comb, by_net, clear, first_comb, unmoved}
 use Rattle.body_replay.specs.Contract.{sure_in}
 use Rattle.body_replay.specs.Runs.{Runs}
 use Rattle.replay_model.specs.Sets.{AreSets, Sets}
@@ -17,11 +17,11 @@ use Rattle.replay_model.specs.Tables.{Tables}
 use Rattle.replay_model.specs.Step.{Closing, Replay, all_run, contradicts}
 use Rattle.replay_model.specs.Stands.{AreForced, AreKnown}
 use Rattle.replay_model.specs.Laws.{IsReplayOf, StepForcedLaw, closed_at, closing_at}
+use Rattle.design_model.proofs.Stretches.{window_not_first}
 use Rattle.replay_model.proofs.AskedLaws.{AskedLaws, asked_of}
 use Rattle.replay_model.proofs.Calm.{calm_dumped}
 use Rattle.replay_model.proofs.ClearClocked.{unwoken_sure, written_made, written_sure}
 use Rattle.replay_model.proofs.ClearRounds.{bound_sure, comb_clear, net_clear, signal_dumped}
-use Rattle.replay_model.proofs.FirstKnown.{not_window}
 use Rattle.replay_model.proofs.Grows.{sample, sample_agrees}
 use Rattle.replay_model.proofs.Order.{final_dumped, made_dumped}
 use Rattle.replay_model.proofs.Reasons.{map_same}
@@ -56,7 +56,8 @@ module _ (h : Habit) (d : Design) (dump : BoundDump) (run : Runs) (tables : Tabl
           (sure_at (all_run st).made (sample (all_run st).made) (signal_cells d s) (sure ∙ ap (map Some) (sym agrees)) c inside))
 
   forced_step : (s : ℕ) (bits : List Bit) → dump.bound s ≡ true → (signal_at d s).input ≡ false → IsForcedBy d h dump (suc t) s bits → signal_bits d (dump.values (suc t)) s ≡ bits
-  forced_step s bits bound plain (at_first first net) = absurd (not_window dump.times (suc t) (suc t) first window (omega arith))
+  forced_step s bits bound plain (at_first first net) = absurd (window_not_first dump.stretches (suc t) is.fits.rising first window)
+  forced_step s bits bound plain (first_comb p first value) = absurd (window_not_first dump.stretches (suc t) is.fits.rising first window)
   forced_step s bits bound plain (unmoved in_window calm e) =
       map_same (dump.values (suc t)) (dump.values t) (signal_cells d s) (λ c inside. sym (calm_dumped h d dump run tables points is asked t sets a window are known.is_clear agreed c (signal_dumped d dump.bound s c bound inside) (subst (λ z. sets.moves z ≡ false) (sym (in_signal d s c inside).0) (false_from_ne_true _ (λ m. calm ((are.moves s).0 m))))))
       ∙ ap (λ u. signal_bits d (dump.values u) s) (sym back) ∙ sym e

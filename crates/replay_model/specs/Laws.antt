@@ -1,6 +1,6 @@
 -- What the replay of a dump promises: what it keeps and reports is right from the first step on, until it answers a contradiction,
 -- which no run shows; and so its verdicts hold.
-use Rattle.std.specs.Prelude.{◌≡◌, ◌≢◌, ◌≤◌, ℕ, suc, Bool, true, false, List, []}
+use Rattle.std.specs.Prelude.{◌≡◌, ◌≢◌, ◌<◌, ◌≤◌, ℕ, suc, Bool, true, false, List, []}
 use Rattle.event_machine.specs.Cell.{Cell}
 use Rattle.event_machine.specs.Habit.{Habit}
 use Rattle.design_model.specs.four_state.Vector.{Vector}
@@ -8,7 +8,7 @@ use Rattle.design_model.specs.declared.point.Point.{Point}
 use Rattle.design_model.specs.declared.point.Point.TheVariants.{Arc as arc_point, Toggle as toggle_point}
 use Rattle.design_model.specs.Design.{Design, In}
 use Rattle.design_model.specs.Run.{IsRun, Run}
-use Rattle.design_model.specs.Shows.{BoundDump, IsFirst, IsListed, IsShowing, IsShown, IsWindow, Shows}
+use Rattle.design_model.specs.Shows.{BoundDump, IsFirst, IsListed, IsShowing, IsShown, IsWindow, NoneShown, Shows}
 use Rattle.design_model.specs.Points.{IsHit, IsHitAt, IsPoint}
 use Rattle.design_model.specs.Doubt.{IsInDoubt}
 use Rattle.design_model.specs.Open.{IsReached}
@@ -21,8 +21,9 @@ use Rattle.body_replay.specs.Runs.{AreRuns, Runs}
 use Rattle.replay_model.specs.Sets.{AreSets, Sets}
 use Rattle.replay_model.specs.Tables.{AreTables, Tables}
 use Rattle.replay_model.specs.Marks.{Hit, IsVerdict, Missed, Undetermined}
-use Rattle.replay_model.specs.Step.{Closing, Replay, closed, contradicts}
+use Rattle.replay_model.specs.Step.{Closing, Replay, closed, contradicts, forgotten, new_replay}
 use Rattle.replay_model.specs.Start.{contradicts_first, started}
+use Rattle.replay_model.specs.Paused.{IsPaused}
 use Rattle.replay_model.specs.Stands.{AreForced, AreKnown, AreReasoned, IsSound, Stands}
 
 -- what is taken for granted of a replay: a lawful design, its tables, runs of its bodies, and points of which the toggles are of bits of its signals
@@ -54,12 +55,29 @@ closing_at d dump run tables sets t a =
 abbrev pub closed_at : Design → BoundDump → Runs → Tables → List Point → Sets → ℕ → Replay → Replay
 closed_at d dump run tables points sets t a = closed (closing_at d dump run tables sets t a) points
 
--- Sound laws: the replay is sound after its first step.
+-- Pause laws: where nothing is shown before a time, a new replay is paused at it.
+abbrev pub NewPausedLaw : Type 0
+NewPausedLaw =
+    (d : Design) (h : Habit) (dump : BoundDump) (points : List Point) (u : ℕ) → ((v : ℕ) → v < u → IsShown dump v → ⊥) → IsPaused d h dump points u new_replay
+
+-- where all this holds at a time, and nothing is shown after it and before u, the replay that has forgotten the values is paused at u
+abbrev pub PausedLaw : Type 0
+PausedLaw =
+    (d : Design) (h : Habit) (dump : BoundDump) (run : Runs) (tables : Tables) (points : List Point) → IsReplayOf d h dump run tables points
+    → (t u : ℕ) (a : Replay) → t < u → NoneShown dump t u → Stands d h dump tables points t a → IsPaused d h dump points u (forgotten a)
+
+-- it stays so up to a later time, where nothing is shown
+abbrev pub PausedLaterLaw : Type 0
+PausedLaterLaw =
+    (d : Design) (h : Habit) (dump : BoundDump) (run : Runs) (tables : Tables) (points : List Point) → IsReplayOf d h dump run tables points
+    → (u w : ℕ) (a : Replay) → u ≤ w → ((v : ℕ) → u ≤ v → v < w → IsShown dump v → ⊥) → IsPaused d h dump points u a → IsPaused d h dump points w a
+
+-- Sound laws: the replay is sound after the first step of a stretch.
 abbrev pub FirstSoundLaw : Type 0
 FirstSoundLaw =
-    (d : Design) (h : Habit) (dump : BoundDump) (run : Runs) (tables : Tables) (points : List Point) → IsReplayOf d h dump run tables points → (t : ℕ)
-    → IsFirst dump t → IsShown dump t
-    → IsSound d h dump points t (started d dump.bound run tables (dump.values t))
+    (d : Design) (h : Habit) (dump : BoundDump) (run : Runs) (tables : Tables) (points : List Point) → IsReplayOf d h dump run tables points → (t : ℕ) (a : Replay)
+    → IsFirst dump t → IsShown dump t → IsPaused d h dump points t a
+    → IsSound d h dump points t (started d dump.bound run tables (dump.values t) a)
 
 -- a closing step keeps it sound
 abbrev pub StepSoundLaw : Habit → Type 0
@@ -75,12 +93,13 @@ RestSoundLaw =
     → (t : ℕ) (a : Replay) → IsCalm d dump t → IsWindow dump (suc t) → (IsListed dump (suc t) → ⊥) → IsSound d h dump points t a
     → IsSound d h dump points (suc t) a
 
--- Known laws: where there was no contradiction, what is clear is sure after the first step.
+-- Known laws: where there was no contradiction, what is clear is sure after the first step of a stretch.
 abbrev pub FirstKnownLaw : Type 0
 FirstKnownLaw =
     (d : Design) (h : Habit) (dump : BoundDump) (run : Runs) (tables : Tables) (points : List Point) → IsReplayOf d h dump run tables points
-    → HasOwnWakes d → (t : ℕ) → IsFirst dump t → IsShown dump t → ((c : Cell) → contradicts_first d dump.bound run tables (dump.values t) c ≡ false)
-    → AreKnown d h dump tables t (started d dump.bound run tables (dump.values t))
+    → HasOwnWakes d → (t : ℕ) (a : Replay)
+    → IsFirst dump t → IsShown dump t → IsPaused d h dump points t a → ((c : Cell) → contradicts_first d dump.bound run tables (dump.values t) a c ≡ false)
+    → AreKnown d h dump tables t (started d dump.bound run tables (dump.values t) a)
 
 -- a closing step without a contradiction keeps it that what is clear is sure
 abbrev pub StepKnownLaw : Habit → Type 0
@@ -112,11 +131,12 @@ RestReasonedLaw =
     → (t : ℕ) (a : Replay) → IsWindow dump (suc t) → (IsListed dump (suc t) → ⊥) → AreReasoned d h dump t a
     → AreReasoned d h dump (suc t) a
 
--- Forced laws: where there was no contradiction, no forced value differs from the dump's at the first step.
+-- Forced laws: where there was no contradiction, no forced value differs from the dump's at the first step of a stretch.
 abbrev pub FirstForcedLaw : Type 0
 FirstForcedLaw =
     (d : Design) (h : Habit) (dump : BoundDump) (run : Runs) (tables : Tables) (points : List Point) → IsReplayOf d h dump run tables points
-    → HasOwnWakes d → (t : ℕ) → IsFirst dump t → IsShown dump t → ((c : Cell) → contradicts_first d dump.bound run tables (dump.values t) c ≡ false)
+    → HasOwnWakes d → (t : ℕ) (a : Replay)
+    → IsFirst dump t → IsShown dump t → IsPaused d h dump points t a → ((c : Cell) → contradicts_first d dump.bound run tables (dump.values t) a c ≡ false)
     → AreForced d h dump t
 
 -- a closing step without a contradiction keeps it that no forced value differs
@@ -132,12 +152,13 @@ abbrev pub RestForcedLaw : Type 0
 RestForcedLaw =
     (d : Design) (h : Habit) (dump : BoundDump) (t : ℕ) → (IsListed dump (suc t) → ⊥) → AreForced d h dump t → AreForced d h dump (suc t)
 
--- Whole laws: where there was no contradiction, all this holds after the first step.
+-- Whole laws: where there was no contradiction, all this holds after the first step of a stretch.
 abbrev pub FirstStandsLaw : Type 0
 FirstStandsLaw =
     (d : Design) (h : Habit) (dump : BoundDump) (run : Runs) (tables : Tables) (points : List Point) → IsReplayOf d h dump run tables points
-    → HasOwnWakes d → (t : ℕ) → IsFirst dump t → IsShown dump t → ((c : Cell) → contradicts_first d dump.bound run tables (dump.values t) c ≡ false)
-    → Stands d h dump tables points t (started d dump.bound run tables (dump.values t))
+    → HasOwnWakes d → (t : ℕ) (a : Replay)
+    → IsFirst dump t → IsShown dump t → IsPaused d h dump points t a → ((c : Cell) → contradicts_first d dump.bound run tables (dump.values t) a c ≡ false)
+    → Stands d h dump tables points t (started d dump.bound run tables (dump.values t) a)
 
 -- a closing step without a contradiction keeps all this
 abbrev pub StepStandsLaw : Habit → Type 0
@@ -162,11 +183,11 @@ ContradictionLaw h =
     → contradicts (closing_at d dump run tables sets t a) c ≡ true → (r : Run) → IsShowing d h dump (suc t) r
     → ⊥
 
--- where it contradicts at its first step, no run shows the dump up to that time
+-- where it contradicts at the first step of a stretch, no run shows the dump up to that time
 abbrev pub FirstContradictionLaw : Type 0
 FirstContradictionLaw =
     (d : Design) (h : Habit) (dump : BoundDump) (run : Runs) (tables : Tables) (points : List Point) → IsReplayOf d h dump run tables points
-    → (t : ℕ) (c : Cell) → IsFirst dump t → IsShown dump t → contradicts_first d dump.bound run tables (dump.values t) c ≡ true → (r : Run)
+    → (t : ℕ) (a : Replay) (c : Cell) → IsFirst dump t → IsShown dump t → IsPaused d h dump points t a → contradicts_first d dump.bound run tables (dump.values t) a c ≡ true → (r : Run)
     → IsShowing d h dump t r
     → ⊥
 
@@ -200,3 +221,10 @@ ReasonedVerdictLaw =
     → ((u : ℕ) → IsWindow dump u → u ≤ t) → IsShown dump t
     → IsSound d h dump points t a → AreReasoned d h dump t a
     → AreReasonedVerdicts d h dump points a
+
+-- where a replay is paused at a time that no time of the window reaches, its verdicts are sound and reasoned
+abbrev pub PausedVerdictLaw : Type 0
+PausedVerdictLaw =
+    (d : Design) (h : Habit) (dump : BoundDump) (points : List Point) (u : ℕ) (a : Replay) → IsLawfulDesign d → IsAnyDumpOf d dump → AreLastRounds d dump
+    → ((v : ℕ) → IsWindow dump v → v < u) → IsPaused d h dump points u a
+    → AreSoundVerdicts d h dump points a × AreReasonedVerdicts d h dump points a

@@ -1,5 +1,5 @@
--- The replay of the first closed step, as a function: the dump's values, and what Assigns make of them.
-use Rattle.std.specs.Prelude.{ℕ, Bool, true, false, not, ◌&&◌, if◌then◌else◌, List, [], ◌∷◌, Some, None}
+-- The replay of the first closed step of a stretch, as a function: the dump's values, and what Assigns make of them, and Combs that have acted.
+use Rattle.std.specs.Prelude.{ℕ, Bool, true, false, not, ◌&&◌, ◌||◌, if◌then◌else◌, List, [], ◌∷◌, Some, None}
 use Rattle.event_machine.specs.Cell.{Cell, Values}
 use Rattle.design_model.specs.four_state.declared.bit.Bit.{Bit}
 use Rattle.design_model.specs.Design.{Design, body_at, is_assign, process_at, signal_at}
@@ -8,14 +8,14 @@ use Rattle.body_replay.specs.Contract.{Outcome, quiet}
 use Rattle.body_replay.specs.Runs.{Runs, StoreView}
 use Rattle.body_replay.specs.Store.{Kept}
 use Rattle.replay_model.specs.Tables.{Tables}
-use Rattle.replay_model.specs.Step.{Replay, is_dumped, surely_differ}
+use Rattle.replay_model.specs.Step.{Replay, is_comb, is_dumped, settled_kept, surely_differ}
 
 -- the replay within the first step
 pub record Starting : Type 0 where
   pub kept : Kept  -- what is known of the values
-  pub made : Kept  -- what Assigns made of each cell, before the dump's value took its place
+  pub made : Kept  -- what was made of each cell, before the dump's value took its place
 
-module _ (d : Design) (bound : ℕ → Bool) (run : Runs) (tables : Tables) (new : Values Bit) where
+module _ (d : Design) (bound : ℕ → Bool) (run : Runs) (tables : Tables) (new : Values Bit) (before : Replay) where
   -- what the dump says
   abbrev pub first_kept : Kept
   first_kept c = if is_dumped d bound c then Some (new c) else None
@@ -24,7 +24,11 @@ module _ (d : Design) (bound : ℕ → Bool) (run : Runs) (tables : Tables) (new
   abbrev pub first_store : Kept → StoreView
   first_store k = record { kept = k; hidden = λ x. false; shown = k }
 
-  -- what an Assign makes of its targets
+  -- an Assign, or a Comb that has acted, has its targets as its body leaves them
+  abbrev pub runs_first : ℕ → Bool
+  runs_first p = is_assign (process_at d p) || (is_comb (process_at d p) && before.acted p)
+
+  -- what such a process makes of its targets
   abbrev pub after_first : Bool → ℕ → Outcome → Starting → Starting
   after_first ordered p o w =
       record {
@@ -32,17 +36,17 @@ module _ (d : Design) (bound : ℕ → Bool) (run : Runs) (tables : Tables) (new
         made = λ c. if blocking_target d (body_at d p) c then o.kept c else w.made c;
       }
 
-  -- an Assign runs, whether anything moves or not
+  -- it runs, whether anything moves or not
   abbrev pub run_first : Bool → ℕ → Starting → Starting
   run_first ordered p w =
-      if is_assign (process_at d p) then after_first ordered p (run p (first_store w.kept) quiet) w else w
+      if runs_first p then after_first ordered p (run p (first_store (settled_kept d p w.kept)) quiet) w else w
 
-  -- the Assigns, in order
+  -- those, in order
   abbrev pub run_all_first : Bool → List ℕ → Starting → Starting
   run_all_first ordered [] w = w
   run_all_first ordered (p ∷ ps) w = run_all_first ordered ps (run_first ordered p w)
 
-  -- after all Assigns
+  -- after all
   abbrev pub all_first : Starting
   all_first = run_all_first false tables.last (run_all_first true tables.order (record { kept = first_kept; made = λ c. None }))
 
@@ -50,6 +54,6 @@ module _ (d : Design) (bound : ℕ → Bool) (run : Runs) (tables : Tables) (new
   abbrev pub contradicts_first : Cell → Bool
   contradicts_first c = is_dumped d bound c && (not (signal_at d c.thing).input && surely_differ (all_first.made c) (Some (new c)))
 
-  -- the replay after its first step
+  -- the replay after the step
   abbrev pub started : Replay
-  started = record { kept = all_first.kept; acted = λ p. false; notes = [] }
+  started = record { kept = all_first.kept; acted = before.acted; notes = before.notes }

@@ -28,6 +28,14 @@ pub record Replay : Type 0 where
   pub acted : ℕ → Bool  -- the Comb has surely acted in the window
   pub notes : List Marking  -- what was reported to the marks
 
+-- a replay that has closed no step
+abbrev pub new_replay : Replay
+new_replay = record { kept = λ c. None; acted = λ p. false; notes = [] }
+
+-- the replay once the dump has gone off: nothing is known of the values any more
+abbrev pub forgotten : Replay → Replay
+forgotten a = record a { kept = λ c. None }
+
 -- the replay within a step
 pub record Working : Type 0 where
   pub kept : Kept

@@ -4,12 +4,12 @@ use Rattle.std.specs.Prelude.{if◌then◌else◌}
 use Rattle.std.proofs.lemmas.Bool.{cases_Bool, false_from_ne_true}
 use Rattle.event_machine.specs.Cell.{Cell, Values}
 use Rattle.replay_model.specs.four_state.declared.bit.Bit.{Bit}
-use Rattle.replay_model.specs.design_model.Design.{Design, body_at, is_assign, process_at}
+use Rattle.replay_model.specs.design_model.Design.{Design, body_at}
 use Rattle.replay_model.specs.design_model.Mentions.{blocking_target}
 use Rattle.replay_model.specs.body_replay.Contract.{quiet}
 use Rattle.replay_model.specs.body_replay.Runs.{Runs}
-use Rattle.replay_model.specs.Start.{Starting, after_first, first_kept, first_store, run_all_first, run_first, started}
-use Rattle.replay_model.specs.Step.{Closing, Working, after_settling, all_run, certainty, clocked_run, is_dumped, is_loose, is_touched, plain_store, run_all_settling, run_settling, settle_start, settled_kept}
+use Rattle.replay_model.specs.Start.{Starting, after_first, first_kept, first_store, run_all_first, run_first, runs_first, started}
+use Rattle.replay_model.specs.Step.{Closing, Replay, Working, after_settling, all_run, certainty, clocked_run, is_dumped, is_loose, is_touched, plain_store, run_all_settling, run_settling, settle_start, settled_kept}
 use Rattle.replay_model.specs.Tables.{Tables}
 use Rattle.replay_model.proofs.Clocked.{at_false}
 use Rattle.replay_steps.specs.Blank.{DrivesCells, HasDumpCells, IsBlank, IsCellOf}
@@ -50,19 +50,19 @@ module _ (st : Closing) where
       runs_blank false st.tables.last (run_all_settling st true st.tables.order (settle_start st (clocked_run st))) drives
       (runs_blank true st.tables.order (settle_start st (clocked_run st)) drives (start_blank none has before))
 
-module _ (d : Design) (bound : ℕ → Bool) (run : Runs) (tables : Tables) (new : Values Bit) (has : HasDumpCells d bound) (drives : (p : ℕ) → DrivesCells d p) where
-  first_run_blank : (ordered : Bool) (p : ℕ) (w : Starting) → IsBlank d w.kept → IsBlank d (run_first d bound run tables new ordered p w).kept
-  first_run_blank ordered p w before = go (is_assign (process_at d p))
+module _ (d : Design) (bound : ℕ → Bool) (run : Runs) (tables : Tables) (new : Values Bit) (earlier : Replay) (has : HasDumpCells d bound) (drives : (p : ℕ) → DrivesCells d p) where
+  first_run_blank : (ordered : Bool) (p : ℕ) (w : Starting) → IsBlank d w.kept → IsBlank d (run_first d bound run tables new earlier ordered p w).kept
+  first_run_blank ordered p w before = go (runs_first d bound run tables new earlier p)
     where
-      go : (b : Bool) → IsBlank d (if b then after_first d bound run tables new ordered p (run p (first_store d bound run tables new w.kept) quiet) w else w).kept
+      go : (b : Bool) → IsBlank d (if b then after_first d bound run tables new earlier ordered p (run p (first_store d bound run tables new earlier (settled_kept d p w.kept)) quiet) w else w).kept
       go true = λ c outside. at_false (λ z. z ≡ None) (blocking_target d (body_at d p) c && not (is_dumped d bound c)) _ (w.kept c) (ap (λ v. v && not (is_dumped d bound c)) (not_driven d p (drives p) c outside)) (before c outside)
       go false = before
 
-  first_runs_blank : (ordered : Bool) (ps : List ℕ) (w : Starting) → IsBlank d w.kept → IsBlank d (run_all_first d bound run tables new ordered ps w).kept
+  first_runs_blank : (ordered : Bool) (ps : List ℕ) (w : Starting) → IsBlank d w.kept → IsBlank d (run_all_first d bound run tables new earlier ordered ps w).kept
   first_runs_blank ordered [] w before = before
-  first_runs_blank ordered (p ∷ ps) w before = first_runs_blank ordered ps (run_first d bound run tables new ordered p w) (first_run_blank ordered p w before)
+  first_runs_blank ordered (p ∷ ps) w before = first_runs_blank ordered ps (run_first d bound run tables new earlier ordered p w) (first_run_blank ordered p w before)
 
-  pub first_blank : IsBlank d (started d bound run tables new).kept
+  pub first_blank : IsBlank d (started d bound run tables new earlier).kept
   first_blank =
-      first_runs_blank false tables.last (run_all_first d bound run tables new true tables.order (record { kept = first_kept d bound run tables new; made = λ c. None }))
-      (first_runs_blank true tables.order (record { kept = first_kept d bound run tables new; made = λ c. None }) (λ c outside. at_false (λ z. z ≡ None) (is_dumped d bound c) (Some (new c)) None (not_dumped d bound has c outside) refl))
+      first_runs_blank false tables.last (run_all_first d bound run tables new earlier true tables.order (record { kept = first_kept d bound run tables new earlier; made = λ c. None }))
+      (first_runs_blank true tables.order (record { kept = first_kept d bound run tables new earlier; made = λ c. None }) (λ c outside. at_false (λ z. z ≡ None) (is_dumped d bound c) (Some (new c)) None (not_dumped d bound has c outside) refl))

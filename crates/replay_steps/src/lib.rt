@@ -84,7 +84,7 @@ pub fn drives_cells_law()
 
 /// Where processes drive cells of the design, nothing is known of other cells after the first step.
 pub fn blank_first_law()
-    ensures { (d : Design) (bound : ℕ → Bool) (run : Runs) (tables : Tables) (new : Values Bit) → HasDumpCells d bound → ((p : ℕ) → DrivesCells d p) → IsBlank d (started d bound run tables new).kept }
+    ensures { (d : Design) (bound : ℕ → Bool) (run : Runs) (tables : Tables) (new : Values Bit) (before : Replay) → HasDumpCells d bound → ((p : ℕ) → DrivesCells d p) → IsBlank d (started d bound run tables new before).kept }
 {}
 
 /// It stays so before the first run of a step, with each run, and after the step.

@@ -17,7 +17,7 @@ use Rattle.mark_laws.specs.cover_points.design_machines.state_machines.Drawn.{Is
 use Rattle.mark_laws.specs.cover_points.design_machines.state_machines.Machines.{StateMachines}
 use Rattle.mark_laws.specs.cover_points.design_machines.state_machines.declared.drawn.Drawn.{Drawn}
 use Rattle.design_model.specs.Reads.{PartialMap, ReadsFrom}
-use Rattle.design_model.specs.Shows.{BoundDump, IsListed, IsWindow, IsWindowOf, last_time}
+use Rattle.design_model.specs.Shows.{BoundDump, InSome, IsListed, IsWindow, IsWindowOf, last_time}
 use Rattle.design_model.specs.Tree.{Process, assign, clocked, comb}
 use Rattle.design_model.specs.declared.point.Point.{Point}
 use Rattle.design_model.specs.declared.point.Point.TheVariants as point
@@ -36,11 +36,17 @@ last_listed u [] = inl refl
 last_listed u (x ∷ us) = inr (last_listed x us)
 
 pub window_before : (dump : BoundDump) (n t : ℕ) → ((u : ℕ) → IsListed dump u → u < n) → IsWindow dump t → t < n
-window_before dump n t below is = within dump.times below is
+window_before dump n t below is = within dump.stretches below is
   where
-    within : (times : List ℕ) → ((u : ℕ) → In u times → u < n) → IsWindowOf times t → t < n
+    within_one : (ts : List ℕ) → ((u : ℕ) → In u ts → u < n) → IsWindowOf ts t → t < n
+    within_one [] h w = absurd w
+    within_one (u ∷ us) h w = omega (arith, w.1, h (last_time u us) (last_listed u us))
+
+    within : (tss : List (List ℕ)) → ((u : ℕ) → InSome (In u) tss → u < n) → InSome (λ ts. IsWindowOf ts t) tss → t < n
     within [] h w = absurd w
-    within (u ∷ us) h w = omega (arith, w.1, h (last_time u us) (last_listed u us))
+    within (ts ∷ []) h w = within_one ts h w
+    within (ts ∷ us ∷ tss) h (inl w) = within_one ts (λ u k. h u (inl k)) w
+    within (ts ∷ us ∷ tss) h (inr w) = within (us ∷ tss) (λ u k. h u (inr k)) w
 
 module _ (d : Design) (lawful : IsLawfulDesign d) where
   abbrev Below : ℕ → Type 0
