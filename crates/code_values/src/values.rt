@@ -115,6 +115,15 @@ impl CodeValues {
         self.given.clear();
     }
 
+    /// No code has a value any more, as if the dump had given none. It takes time for the codes, and no memory.
+    pub fn forget(&mut self)
+        ensures { self.new ≡ no_values (length self.old.last) }
+    {
+        self.closed.fill(None);
+        self.last.fill(None);
+        self.given.clear();
+    }
+
     /// The first signal that has a code without a value, by the codes of the signals. It takes time for all signals.
     pub fn first_missing(&self, codes: &[Option<u32>]) -> Option<usize>
         ensures some { IfSome result (IsFirstMissing self.now.last codes.now) }

@@ -9,7 +9,7 @@ use Rattle.event_machine.specs.Cell.{Cell, Values}
 use Rattle.four_state.specs.Vector.{Vector}
 use Rattle.four_state.specs.declared.bit.Bit.{Bit}
 use Rattle.known_state.specs.Partly.{Partly, allows_bit, allows_bits}
-use Rattle.design_model.specs.Design.{Design, In, body_at, cell, is_assign, process_at, signal_at, signal_bits}
+use Rattle.design_model.specs.Design.{Design, In, body_at, cell, signal_at, signal_bits}
 use Rattle.design_model.specs.Lawful.{IsLawfulDesign}
 use Rattle.design_model.specs.Mentions.{blocking_target}
 use Rattle.design_model.proofs.TargetCells.{target_cells_law}
@@ -23,7 +23,7 @@ use Rattle.settling.specs.process_targets.Rows.{AreTargetRows}
 use Rattle.settling.specs.process_targets.Targets.{row_has}
 use Rattle.settling.specs.process_targets.declared.bits.Bits.{Bits}
 use Rattle.process_order.specs.replay_model.Start.{Starting, all_first, contradicts_first}
-use Rattle.process_order.specs.replay_model.Step.{is_dumped, known_bits, surely_differ}
+use Rattle.process_order.specs.replay_model.Step.{Replay, is_dumped, known_bits, surely_differ}
 use Rattle.process_order.specs.replay_model.Tables.{Tables}
 use Rattle.settling.specs.First.{AtFirst}
 use Rattle.settling.specs.step_values.Dumped.{AreDumped}
@@ -35,8 +35,8 @@ use Rattle.step_check.proofs.step_changes.Found.{code_of}
 use Rattle.step_check.specs.Checks.{AreCheckRows}
 use Rattle.step_check.proofs.Lists.{all_in, checked_has, flat_in, has_checked, in_flat, in_last, last_in}
 use Rattle.value_store.specs.Signals.{no_value}
-use Rattle.first_step.specs.Begun.{assigns}
-use Rattle.first_step.proofs.Assigns.{IsMadeBy, all_made}
+use Rattle.first_step.specs.Begun.{AreActed, all_left, is_left}
+use Rattle.first_step.proofs.Left.{IsMadeBy, all_made, runs_as}
 
 -- ---- what follows of what was found
 
@@ -61,28 +61,28 @@ allowed_same : (o : Option Bit) (b : Bit) → allows_bit o b ≡ true → surely
 allowed_same None b a e = false≢true e
 allowed_same (Some x) b a e = both_ways _ (ap not a) e
 
-module _ (d : Design) (bound : ℕ → Bool) (tables : Tables) (new : Values Bit) (targets : List (List Bits)) (checks : List (List ℕ)) (codes : List (Option ℕ)) (last : List (Option Vector)) (x : Store) (v : StepVectors)
+module _ (d : Design) (bound : ℕ → Bool) (tables : Tables) (new : Values Bit) (before : Replay) (acted : List Bool) (are : AreActed d acted before) (targets : List (List Bits)) (checks : List (List ℕ)) (codes : List (Option ℕ)) (last : List (Option Vector)) (x : Store) (v : StepVectors)
     (lawful : IsLawfulDesign d) (rows : AreTargetRows d targets) (checked : AreCheckRows codes targets checks) (same : (s : ℕ) → bound s ≡ has_code codes s) (below : (s : ℕ) → has_code codes s ≡ true → s < length d.signals)
-    (dumped : AreDumped d codes last new) (at : AtFirst d bound (all_first d bound (runs_of d) tables new) x v) where
+    (dumped : AreDumped d codes last new) (at : AtFirst d bound (all_first d bound (runs_of d) tables new before) x v) where
   abbrev ran : List ℕ
-  ran = assigns d (tables.order ++ tables.last)
+  ran = all_left d acted (tables.order ++ tables.last)
 
   abbrev order : List ℕ
   order = last_of_each (flat_map (row_at checks) ran)
 
   abbrev end : Starting
-  end = all_first d bound (runs_of d) tables new
+  end = all_first d bound (runs_of d) tables new before
 
   inside : (s : ℕ) → bound s ≡ true → s < length d.signals
   inside s b = below s (sym (same s) ∙ b)
 
-  -- a bound signal of which an Assign may write a cell is checked
-  is_listed : (c : Cell) → IsMadeBy d bound (runs_of d) tables new c (tables.order ++ tables.last) → bound c.thing ≡ true → In c.thing order
+  -- a bound signal of which something that runs may write a cell is checked
+  is_listed : (c : Cell) → IsMadeBy d bound (runs_of d) tables new before c (tables.order ++ tables.last) → bound c.thing ≡ true → In c.thing order
   is_listed c by b =
       let p = by.0 in
       let has : row_has (row_at targets p) c ≡ true = (rows.each p).bits.has c (inside c.thing b) ∙ by.3 in
       let row = subst (In c.thing) (sym (checked.each p)) (has_checked codes (row_at targets p) c has (sym (same c.thing) ∙ b)) in
-      in_last (flat_map (row_at checks) ran) c.thing (in_flat (row_at checks) ran p c.thing (filter_in (λ q. is_assign (process_at d q)) p (tables.order ++ tables.last) by.1 by.2) row)
+      in_last (flat_map (row_at checks) ran) c.thing (in_flat (row_at checks) ran p c.thing (filter_in (is_left d acted) p (tables.order ++ tables.last) by.1 (sym (runs_as d bound (runs_of d) tables new before acted p are) ∙ by.2)) row)
 
   -- what was made of a bound signal
   made_bits : (s : ℕ) → bound s ≡ true → (made_of v.made s).bits ≡ known_bits d end.made s
@@ -98,24 +98,24 @@ module _ (d : Design) (bound : ℕ → Bool) (tables : Tables) (new : Values Bit
         let said = dumped s code.0 code.1 in
         ap₂ allows_bits (sym (made_bits s b)) (sym said.2) ∙ all_in (AgreesAt codes last v.made) order s all i code.0 said.0 code.1 said.1
 
-    pub agree : (c : Cell) → contradicts_first d bound (runs_of d) tables new c ≡ false
+    pub agree : (c : Cell) → contradicts_first d bound (runs_of d) tables new before c ≡ false
     agree c = false_from_ne_true _ (λ e.
         let has = and_parts (is_dumped d bound c) _ e in
         let driven = and_parts (not (signal_at d c.thing).input) _ has.1 in
         let parts = and_parts (bound c.thing) _ has.0 in
-        elim (all_made d bound (runs_of d) tables new c) [
+        elim (all_made d bound (runs_of d) tables new before c) [
           | inl none ↦ false≢true (ap (λ o. surely_differ o (Some (new c))) (sym none) ∙ driven.1)
           | inr by ↦ by_assign by parts.0 parts.1 driven.1
         ])
       where
-        by_assign : IsMadeBy d bound (runs_of d) tables new c (tables.order ++ tables.last) → bound c.thing ≡ true → nat_lt c.place (signal_at d c.thing).width ≡ true → surely_differ (end.made c) (Some (new c)) ≡ true → ⊥
+        by_assign : IsMadeBy d bound (runs_of d) tables new before c (tables.order ++ tables.last) → bound c.thing ≡ true → nat_lt c.place (signal_at d c.thing).width ≡ true → surely_differ (end.made c) (Some (new c)) ≡ true → ⊥
         by_assign by b wide differ =
             let within : c.place < (signal_at d c.thing).width = grind (arith, nat_tests, wide) in
             let start : 0 + c.place ≡ c.place = omega arith in
             let fits = allowed end.made new (cell c.thing) 0 (signal_at d c.thing).width (agrees c.thing (is_listed c by b) b) c.place within in
             allowed_same (end.made c) (new c) (subst (λ i. allows_bit (end.made (cell c.thing i)) (new (cell c.thing i)) ≡ true) start fits) differ
 
-  pub differ : (found : Difference) → IsFirstDifference codes last v.made order found → (c : Cell) × (c.thing ≡ found.signal) × (contradicts_first d bound (runs_of d) tables new c ≡ true)
+  pub differ : (found : Difference) → IsFirstDifference codes last v.made order found → (c : Cell) × (c.thing ≡ found.signal) × (contradicts_first d bound (runs_of d) tables new before c ≡ true)
   differ found first =
       let s = found.signal in
       let r = first.differs in

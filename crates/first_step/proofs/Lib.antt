@@ -1,6 +1,6 @@
 pub mod Putting
 pub mod Starting
-pub mod Assigns
+pub mod Left
 pub mod Checked
 pub use Rattle.settling.proofs.mark_laws as mark_laws
 pub use Rattle.settling.proofs.replay_steps as replay_steps

@@ -1,26 +1,45 @@
--- The first step: the dump's values are put in, and the Assigns run.
-use Rattle.std.specs.Prelude.{◌≡◌, ◌<◌, ◌&&◌, ℕ, Bool, true, false, if◌then◌else◌, filter, List, length, map, nat_lt, replicate, slice_set, Option, Some, None}
+-- The first step of a stretch: the dump's values are put in, and the Assigns run, and the Combs that have acted.
+use Rattle.std.specs.Prelude.{◌≡◌, ◌<◌, ◌&&◌, ◌||◌, ℕ, Bool, true, false, if◌then◌else◌, filter, List, length, map, nat_lt, replicate, slice_index_or, slice_set, Option, Some, None}
 use Rattle.event_machine.specs.Cell.{Values}
 use Rattle.four_state.specs.Vector.{Vector}
 use Rattle.four_state.specs.declared.bit.Bit.{Bit}
 use Rattle.known_state.specs.Partly.{Partly}
-use Rattle.design_model.specs.Design.{Design, is_assign, process_at, signal_at, signal_cells}
+use Rattle.design_model.specs.Design.{Design, IsComb, is_assign, process_at, signal_at, signal_cells}
+use Rattle.design_model.specs.Tree.{Process}
 use Rattle.body_replay.specs.Store.{Kept}
 use Rattle.body_store.specs.Made.{nothing}
+use Rattle.process_order.specs.replay_model.Step.{Replay, is_comb}
 use Rattle.body_store.specs.declared.store.Store.{Store}
 use Rattle.settling.specs.store_knowledge.Knows.{Knows}
 use Rattle.settling.specs.step_values.Dumped.{AreDumped}
 use Rattle.settling.specs.step_values.Loose.{has_code}
 use Rattle.settling.specs.step_values.Vectors.{FitsSignals, StepVectors, vector_at}
 
--- the Assigns among some processes of a design
-abbrev pub assigns : Design → List ℕ → List ℕ
-assigns d ps = filter (λ p. is_assign (process_at d p)) ps
+-- the flag of a process, false past the end
+abbrev pub flag_of : List Bool → ℕ → Bool
+flag_of flags p = slice_index_or flags p false
 
--- this is the first step of a dump with these values of codes: nothing is known yet
-pub record IsFirstOf (d : Design) (coded : ℕ → Bool) (new : Values Bit) (codes : List (Option ℕ)) (given : List (Option Vector)) (x : Store) : Type 0 where
+-- an Assign, or a Comb that has acted
+abbrev pub is_left_by : Process → Bool → Bool
+is_left_by x acted = is_assign x || (is_comb x && acted)
+
+-- so it is with the process of this number, by its flag
+abbrev pub is_left : Design → List Bool → ℕ → Bool
+is_left d acted p = is_left_by (process_at d p) (flag_of acted p)
+
+-- those among some processes of a design
+abbrev pub all_left : Design → List Bool → List ℕ → List ℕ
+all_left d acted ps = filter (is_left d acted) ps
+
+-- the flags say which Combs the replay knows to have acted
+abbrev pub AreActed : Design → List Bool → Replay → Type 0
+AreActed d acted before = (p : ℕ) → IsComb (process_at d p) → flag_of acted p ≡ before.acted p
+
+-- this is the first step of a stretch of a dump with these values of codes: nothing is known yet
+pub record IsFirstOf (d : Design) (coded : ℕ → Bool) (new : Values Bit) (before : Replay) (codes : List (Option ℕ)) (given : List (Option Vector)) (flags : List Bool) (x : Store) : Type 0 where
   pub bound : (s : ℕ) → coded s ≡ has_code codes s
   pub dumped : AreDumped d codes given new
+  pub acted : AreActed d flags before
   pub knows : Knows d nothing x
 
 -- the same, with these bits of the signals that pass a test

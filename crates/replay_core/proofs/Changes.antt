@@ -96,7 +96,7 @@ given_ready d points x r s phase code v values fits is closed none width =
       };
       none = fits.none;
       none_clocked = fits.none_clocked;
-      untouched = λ new. let u = fits.untouched new in record { knows = u.knows; words = u.words; acted = u.acted; marks = u.marks; seen = u.seen; told = u.told };
+      forgotten = λ off. let u = fits.forgotten off in record { knows = u.knows; words = u.words; told = u.told };
       begun = λ started. subst (HaveValues codes) (sym is) (λ y. lacks_after d codes last code v (slice_index_or codes y None) (fits.begun started y));
       closed = λ started. subst (HaveValues codes) (sym closed) (fits.closed started);
       refused = fits.refused;

@@ -1,5 +1,5 @@
 -- A closing step of each dump that was followed up to it.
-use Rattle.std.proofs.Common.{◌≡◌, ◌∙◌, ℕ, suc, ◌+◌, ◌||◌, not, Bool, true, false, ◌++◌, List, flat_map, length, Option, Some, None, sym, ap, subst}
+use Rattle.std.proofs.Common.{◌≡◌, ◌∙◌, ℕ, suc, ◌||◌, not, Bool, true, false, ◌++◌, List, flat_map, length, Option, Some, None, sym, ap, subst}
 use Rattle.std.specs.Prelude.{slice_index_or}
 use Rattle.std.proofs.lemmas.Bool.{or_left}
 use Rattle.event_machine.specs.Cell.{Cell}

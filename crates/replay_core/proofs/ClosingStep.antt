@@ -16,7 +16,7 @@ use Rattle.replay_core.specs.Made.{HasFollows, IsDumpFor, subject_of}
 use Rattle.replay_core.specs.Parts.{HasRefused, IsStarted, given_of, made_of, parts_of}
 use Rattle.replay_core.specs.Steps.{CountsSensitive}
 use Rattle.replay_core.specs.declared.fault.Phase.{Phase}
-use Rattle.replay_core.specs.declared.fault.Phase.TheVariants.{New, Refused, Started}
+use Rattle.replay_core.specs.declared.fault.Phase.TheVariants.{Paused, Refused, Started}
 use Rattle.replay_core.specs.declared.fault.ReplayFault.{ReplayFault}
 use Rattle.replay_core.specs.declared.replay.Replay.{Replay}
 use Rattle.replay_core.specs.declared.room.ReplayRoom.{ReplayRoom}
@@ -105,14 +105,14 @@ module _ {A : Type 0} (x y : Replay) (found : Option Difference) (time : ℕ) (l
 
 -- ---- the replay is ready after it
 
-pub is_started : (phase : Phase) → (phase ≡ New → ⊥) → ((fault : ReplayFault) → phase ≡ Refused fault → ⊥) → phase ≡ Started
-is_started New new refused = absurd (new refl)
+pub is_started : (phase : Phase) → (phase ≡ Paused → ⊥) → ((fault : ReplayFault) → phase ≡ Refused fault → ⊥) → phase ≡ Started
+is_started Paused new refused = absurd (new refl)
 is_started Started new refused = refl
 is_started (Refused fault) new refused = absurd (refused fault refl)
 
-not_new : (found : Option Difference) (time : ℕ) → phase_after found time ≡ New → ⊥
-not_new None time is = absurd cc
-not_new (Some different) time is = absurd cc
+not_off : (found : Option Difference) (time : ℕ) → phase_after found time ≡ Paused → ⊥
+not_off None time is = absurd cc
+not_off (Some different) time is = absurd cc
 
 named_in : (found : Option Difference) (time n : ℕ) → IfSome found (λ different. different.signal < n) → (fault : ReplayFault) → phase_after found time ≡ Refused fault → signal_of fault < n
 named_in None time n named fault is = absurd cc
@@ -125,7 +125,7 @@ closed_ready d points x r s phase found time is replayable fits noted none none_
   parts = fits;
   none = none;
   none_clocked = none_clocked;
-  untouched = λ new. absurd (not_new found time (sym is ∙ new));
+  forgotten = λ off. absurd (not_off found time (sym is ∙ off));
   begun = λ started. have;
   closed = λ started. closed_by found time closed (sym is ∙ started);
   refused = λ fault refused. named_in found time (length d.signals) named fault (sym is ∙ refused);

@@ -12,16 +12,16 @@ use Rattle.dump_check.specs.declared.order.Difference.{Difference}
 use Rattle.replay_core.specs.Faults.{fault_at, phase_after}
 use Rattle.replay_core.specs.Fits.{FitsParts, FitsReplay, HaveValues, IsReplayable, signal_of}
 use Rattle.replay_core.specs.declared.fault.Phase.{Phase}
-use Rattle.replay_core.specs.declared.fault.Phase.TheVariants.{New, Refused, Started}
+use Rattle.replay_core.specs.declared.fault.Phase.TheVariants.{Paused, Refused, Started}
 use Rattle.replay_core.specs.declared.fault.ReplayFault.{ReplayFault}
 use Rattle.replay_core.specs.declared.room.ReplayRoom.{ReplayRoom}
 use Rattle.replay_core.specs.declared.state.ReplayState.{ReplayState}
 use Rattle.replay_core.specs.declared.tables.ReplayTables.{ReplayTables}
 
--- a step in which this was found, or nothing, leaves it no longer new
-not_new : (found : Option Difference) (t : ℕ) → phase_after found t ≡ New → ⊥
-not_new None t e = cc
-not_new (Some found) t e = cc
+-- after a step in which this was found, or nothing, it is not paused
+not_off : (found : Option Difference) (t : ℕ) → phase_after found t ≡ Paused → ⊥
+not_off None t e = cc
+not_off (Some found) t e = cc
 
 named_by : (found : Option Difference) (t n : ℕ) → IfSome found (λ one. one.signal < n) → (fault : ReplayFault) → phase_after found t ≡ Refused fault → signal_of fault < n
 named_by None t n l fault e = absurd (none_refused e)
@@ -50,17 +50,17 @@ step_ready d points x r s found t replayable parts none none_clocked have closed
   parts = parts;
   none = none;
   none_clocked = none_clocked;
-  untouched = λ new. absurd (not_new found t new);
+  forgotten = λ off. absurd (not_off found t off);
   begun = λ started. have;
   closed = closed_by found t closed;
   refused = named_by found t (length d.signals) named;
 }
 
--- a replay that has not started and refused nothing is new
-pub is_new : (p : Phase) → (p ≡ Started → ⊥) → ((fault : ReplayFault) → p ≡ Refused fault → ⊥) → p ≡ New
-is_new New a b = refl
-is_new Started a b = absurd (a refl)
-is_new (Refused fault) a b = absurd (b fault refl)
+-- a replay that has not started and refused nothing is paused
+pub is_off : (p : Phase) → (p ≡ Started → ⊥) → ((fault : ReplayFault) → p ≡ Refused fault → ⊥) → p ≡ Paused
+is_off Paused a b = refl
+is_off Started a b = absurd (a refl)
+is_off (Refused fault) a b = absurd (b fault refl)
 
 -- each signal with a code has a value where none of the listed ones lacks it
 pub all_valued : (codes : List (Option ℕ)) (values : List (Option Vector)) → ((s : ℕ) → s < length codes → lacks_value values codes s ≡ false) → HaveValues codes values

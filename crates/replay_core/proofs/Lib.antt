@@ -15,3 +15,4 @@ pub mod Missing
 pub mod Stepping
 pub mod ClosingStep
 pub mod Resting
+pub mod Paused

@@ -2,7 +2,7 @@
 use Rattle.std.proofs.Common.{◌≡◌, ◌∙◌, ℕ, ◌<◌, Bool, false, true, List, length, IfErr, OnOk, Option, Some, None, Result, Ok, Err, refl, sym, ap, subst}
 use Rattle.std.specs.Prelude.{is_none, slice_index_or}
 use Rattle.std.proofs.lemmas.Bool.{false≢true}
-use Rattle.code_values.specs.Values.{lacks_code, lacks_value, value_of}
+use Rattle.code_values.specs.Values.{lacks_code, lacks_value}
 use Rattle.cover_points.specs.declared.listing.Points.{Points}
 use Rattle.design_model.specs.Design.{Design}
 use Rattle.event_machine.specs.Cell.{Values}
@@ -11,7 +11,7 @@ use Rattle.four_state.specs.declared.bit.Bit.{Bit}
 use Rattle.first_step.specs.step_values.Dumped.{AreDumped}
 use Rattle.replay_core.specs.Fits.{FitsReplay, signal_of}
 use Rattle.replay_core.specs.declared.fault.Phase.{Phase}
-use Rattle.replay_core.specs.declared.fault.Phase.TheVariants.{New, Refused, Started}
+use Rattle.replay_core.specs.declared.fault.Phase.TheVariants.{Paused, Refused, Started}
 use Rattle.replay_core.specs.declared.fault.ReplayFault.{ReplayFault}
 use Rattle.replay_core.specs.declared.fault.ReplayFault.TheVariants.{Contradiction, NoBaseline}
 use Rattle.replay_core.specs.declared.room.ReplayRoom.{ReplayRoom}
@@ -19,12 +19,12 @@ use Rattle.replay_core.specs.declared.state.ReplayState.{ReplayState}
 use Rattle.replay_core.specs.declared.tables.ReplayTables.{ReplayTables}
 
 abbrev pub is_refused : Phase → Bool
-is_refused New = false
+is_refused Paused = false
 is_refused Started = false
 is_refused (Refused fault) = true
 
 abbrev pub fault_in : ReplayFault → Phase → ReplayFault
-fault_in other New = other
+fault_in other Paused = other
 fault_in other Started = other
 fault_in other (Refused fault) = fault
 
@@ -43,7 +43,7 @@ refused_ready d points x r s p fault named ready = record {
   parts = ready.parts;
   none = ready.none;
   none_clocked = ready.none_clocked;
-  untouched = λ e. absurd (false≢true (sym (ap is_refused e)));
+  forgotten = λ e. absurd (false≢true (sym (ap is_refused e)));
   begun = λ e. absurd (false≢true (sym (ap is_refused e)));
   closed = λ e. absurd (false≢true (sym (ap is_refused e)));
   refused = λ other e. subst (λ f. signal_of f < length d.signals) (ap (λ q. fault_in fault q) e) named;

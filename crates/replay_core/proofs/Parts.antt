@@ -32,8 +32,8 @@ use Rattle.replay_core.specs.Codes.{flags_of}
 use Rattle.step_words.specs.Words.{FitsRanges, StepState}
 use Rattle.written_words.specs.Written.{WrittenState, in_range, range_at}
 use Rattle.written_words.specs.declared.range.WordRange.{WordRange}
-use Rattle.replay_core.specs.Fits.{AreWideValues, FitsParts, FitsReplay, FitsRoom, FitsState, FitsTables, FitsWords, HaveValues, IsReplayable, IsUntouched}
-use Rattle.replay_core.specs.declared.fault.Phase.TheVariants.{New, Refused, Started}
+use Rattle.replay_core.specs.Fits.{AreWideValues, FitsParts, FitsReplay, FitsRoom, FitsState, FitsTables, FitsWords, HaveValues, IsForgotten, IsReplayable}
+use Rattle.replay_core.specs.declared.fault.Phase.TheVariants.{Paused, Refused, Started}
 use Rattle.replay_core.specs.declared.fault.ReplayFault.{ReplayFault}
 use Rattle.replay_core.specs.declared.room.ReplayRoom.{ReplayRoom}
 use Rattle.replay_core.specs.declared.state.ReplayState.{ReplayState}
@@ -244,16 +244,16 @@ pub count_is : (values : Values) (count : ℕ) → values ≡ no_values count �
 count_is values count is = ap (λ (v : Values). length v.last) is ∙ length-replicate count None
 
 -- a new replay fits
-pub new_ready : (d : Design) (points : Points) (x : ReplayTables) (r : ReplayRoom) (s : ReplayState) (count : ℕ) → IsReplayable d points → FitsTables d x → FitsRoom d x r → r.step.list.pairs ≡ [] → r.step.clocked.pairs ≡ [] → IsUntouched d points r s → FitsWords d x s.notes.written r.words → s.values ≡ no_values count → length x.step.signals ≡ count
-    → length s.acted.items ≡ length d.processes → length s.seen ≡ length d.signals → IsIndexOf points.machines.items (length d.signals) s.machines.index → length points.machines.items ≤ 2 ^ 32 → s.notes.points.now ≡ points → AreMarksOf points s.notes.marks → FitsReplay d s.notes.points.now x r s New
-new_ready d points x r s count replayable tables room none none_clocked untouched words values size acted seen machines few noted marks = subst (λ ps. FitsReplay d ps x r s New) (sym noted) (record {
+pub new_ready : (d : Design) (points : Points) (x : ReplayTables) (r : ReplayRoom) (s : ReplayState) (count : ℕ) → IsReplayable d points → FitsTables d x → FitsRoom d x r → r.step.list.pairs ≡ [] → r.step.clocked.pairs ≡ [] → IsForgotten d r s → FitsWords d x s.notes.written r.words → s.values ≡ no_values count → length x.step.signals ≡ count
+    → length s.acted.items ≡ length d.processes → length s.seen ≡ length d.signals → IsIndexOf points.machines.items (length d.signals) s.machines.index → length points.machines.items ≤ 2 ^ 32 → s.notes.points.now ≡ points → AreMarksOf points s.notes.marks → FitsReplay d s.notes.points.now x r s Paused
+new_ready d points x r s count replayable tables room none none_clocked forgotten words values size acted seen machines few noted marks = subst (λ ps. FitsReplay d ps x r s Paused) (sym noted) (record {
   replayable = replayable;
   parts = record {
     tables = tables;
     room = room;
     state = record {
       kept = nothing;
-      known = untouched.knows;
+      known = forgotten.knows;
       acted = acted;
       seen = seen;
       machines = machines;
@@ -269,7 +269,7 @@ new_ready d points x r s count replayable tables room none none_clocked untouche
   };
   none = none;
   none_clocked = none_clocked;
-  untouched = λ new. untouched;
+  forgotten = λ off. forgotten;
   begun = λ started. absurd (new_started started);
   closed = λ started. absurd (new_started started);
   refused = λ fault refused. absurd (new_refused fault refused);
@@ -278,10 +278,10 @@ new_ready d points x r s count replayable tables room none none_clocked untouche
     no_some : {v : Vector} → None ≡ Some v → ⊥
     no_some e = cc
 
-    new_started : New ≡ Started → ⊥
+    new_started : Paused ≡ Started → ⊥
     new_started e = cc
 
-    new_refused : (fault : ReplayFault) → New ≡ Refused fault → ⊥
+    new_refused : (fault : ReplayFault) → Paused ≡ Refused fault → ⊥
     new_refused fault e = cc
 
 -- all once a step has begun

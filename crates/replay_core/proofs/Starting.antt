@@ -1,21 +1,21 @@
--- The first step of each dump that a replay can be of.
-use Rattle.std.proofs.Common.{◌≡◌, ◌∙◌, ℕ, ◌+◌, ◌<◌, ◌≤◌, Bool, true, false, ◌++◌, List, [], ◌∷◌, length, IfNone, IfSome, Option, Some, None, sym, ap, subst, arith}
-use Rattle.std.specs.Prelude.{filter, if◌then◌else◌, is_some}
+-- The first step of a stretch of each dump that a replay can be of.
+use Rattle.std.proofs.Common.{◌≡◌, ◌∙◌, ℕ, ◌<◌, true, false, List, length, IfNone, IfSome, Option, Some, None, sym, ap, subst}
+use Rattle.std.specs.Prelude.{is_some}
 use Rattle.std.proofs.Math.Path.{fun_ext}
 use Rattle.event_machine.specs.Cell.{Cell}
 use Rattle.four_state.specs.Vector.{Vector}
 use Rattle.body_replay.specs.Runs.{AreRuns, runs_of}
-use Rattle.cover_marks.specs.Marks.{AreMarksOf}
 use Rattle.cover_points.specs.declared.listing.Points.{Points}
 use Rattle.design_model.specs.Design.{Design}
 use Rattle.design_model.specs.Shows.{BoundDump, IsFirst, IsShown}
 use Rattle.design_model.specs.declared.point.Point.TheVariants.{Toggle as toggle_point}
 use Rattle.early_sets.specs.declared.habit.Habit.{Habit}
 use Rattle.machine_laws.proofs.Arcs.{arcs_apart}
-use Rattle.replay_follows.specs.Follows.{Follows, IsSubject, Parts}
+use Rattle.replay_follows.specs.Follows.{Follows, IsSubject, Parts, Pauses}
 use Rattle.replay_follows.specs.Laws.{first_replay}
 use Rattle.replay_follows.proofs.Steps.{against_first, starts}
 use Rattle.replay_model.specs.Start.{contradicts_first}
+use Rattle.replay_model.specs.Step.{Replay}
 use Rattle.replay_model.specs.Tables.{AreTables}
 use Rattle.first_step.specs.step_changes.Changes.{AreUnsigned}
 use Rattle.step_start.specs.step_parts.AtStep.{AtRest}
@@ -26,8 +26,8 @@ use Rattle.wake_laws.specs.Laws.{habit_of}
 use Rattle.wake_laws.specs.OfDesign.{AreWritersOf}
 use Rattle.first_step.specs.Begun.{IsFirstOf}
 use Rattle.replay_core.specs.Codes.{flags_of}
-use Rattle.replay_core.specs.Fits.{FitsTables, HasWriters, IsReplayable, IsUntouched}
-use Rattle.replay_core.specs.Made.{IsDumpFor, Made, made_with, subject_of}
+use Rattle.replay_core.specs.Fits.{FitsTables, HasWriters, IsForgotten, IsReplayable}
+use Rattle.replay_core.specs.Made.{IsDumpFor, Made, made_with, parts_with, subject_of}
 use Rattle.replay_core.specs.declared.room.ReplayRoom.{ReplayRoom}
 use Rattle.replay_core.specs.declared.state.ReplayState.{ReplayState}
 use Rattle.replay_core.specs.declared.tables.ReplayTables.{ReplayTables}
@@ -70,62 +70,49 @@ module _ (d : Design) (h : Habit) (points : Points) (x : ReplayTables) (replayab
   }
 
   module _ (dump : BoundDump) (t : ℕ) (of : IsDumpFor m dump) (first : IsFirst dump t) (shown : IsShown dump t) where
-    -- what the store knew before the step is what the definition starts from
-    pub is_first : (r : ReplayRoom) (s : ReplayState) → IsUntouched d points r s → AreDumped d m.codes s.values.last (dump.values t) → IsFirstOf d dump.bound (dump.values t) m.codes s.values.last s.store
-    is_first r s untouched given = record { bound = of.bound; dumped = given; knows = untouched.knows }
+    module _ (r : ReplayRoom) (s : ReplayState) (a : Replay) (pauses : Pauses (subject_of m dump) t a (parts_with r s).parts) (given : AreDumped d m.codes s.values.last (dump.values t)) where
+      abbrev after : Replay
+      after = first_replay (subject_of m dump) t a
 
-    -- where nothing contradicts the step the dump is followed up to its first time
-    pub starts_at : (r : ReplayRoom) (s : ReplayState) (y : Parts) → IsUntouched d points r s → AreMarksOf points s.notes.marks → AreUnsigned s.values.last → AreDumped d m.codes s.values.last (dump.values t)
-        → y.values.closed ≡ s.values.last → y.acted ≡ s.acted.items → y.marks ≡ s.notes.marks → y.seen ≡ s.seen → y.told ≡ s.machines.told → IsOfDesign d (flags_of m.codes) y.sets → HasWriters d m.codes y.sets
-        → Knows d (first_replay (subject_of m dump) t).kept y.store → ((c : Cell) → contradicts_first d dump.bound (runs_of d) m.tables (dump.values t) c ≡ false) → Follows (subject_of m dump) t (first_replay (subject_of m dump) t) y
-    starts_at r s y untouched marks unsigned given values acted same seen told sets writers knows none =
-        starts (subject_of m dump) t y (is_subject dump of) first shown sets (subst (λ b. AreWritersOf d b y.sets.tables.things y.sets.writers) (sym (fun_ext of.bound)) writers)
-        (subst (λ vs. AreDumped d m.codes vs (dump.values t)) (sym values) given)
-        (subst AreUnsigned (sym values) unsigned)
-        none
-        (subst (λ fs. AtRest d points (first_replay (subject_of m dump) t) y.store fs y.marks y.seen) (sym acted)
-        (subst (λ ms. AtRest d points (first_replay (subject_of m dump) t) y.store s.acted.items ms y.seen) (sym same)
-        (subst (λ ts. AtRest d points (first_replay (subject_of m dump) t) y.store s.acted.items s.notes.marks ts) (sym seen)
-        (record {
-          knows = knows;
-          acted = λ p comb. untouched.acted p;
-          points = marks;
-          marks = untouched.marks;
-          seen = untouched.seen;
-        })))) (told ∙ untouched.told)
+      -- what the store knew before the step is what the definition starts from
+      pub is_first : IsForgotten d r s → IsFirstOf d dump.bound (dump.values t) a m.codes s.values.last s.acted.items s.store
+      is_first forgotten = record { bound = of.bound; dumped = given; acted = pauses.rest.acted; knows = forgotten.knows }
 
-    -- and nothing is known of a word
-    pub starts_words : (r : ReplayRoom) (s : ReplayState) → IsUntouched d points r s → FirstWordsLaw → HasWords d (first_replay (subject_of m dump) t).kept s.notes.written.ranges r.words
-    starts_words r s untouched law =
-        words_stay d nothing (first_replay (subject_of m dump) t).kept s.notes.written.ranges r.words (λ c is. law d dump.bound (runs_of d) m.tables (dump.values t) c replayable.lawful (is_subject dump of).is.tabled is) untouched.words
+      -- where nothing contradicts the step the dump is followed up to this time
+      pub starts_at : (y : Parts) → IsForgotten d r s → AreUnsigned s.values.last
+          → y.values.closed ≡ s.values.last → y.acted ≡ s.acted.items → y.marks ≡ s.notes.marks → y.seen ≡ s.seen → y.told ≡ s.machines.told → IsOfDesign d (flags_of m.codes) y.sets → HasWriters d m.codes y.sets
+          → Knows d after.kept y.store → ((c : Cell) → contradicts_first d dump.bound (runs_of d) m.tables (dump.values t) a c ≡ false) → Follows (subject_of m dump) t after y
+      starts_at y forgotten unsigned values acted same seen told sets writers knows none =
+          starts (subject_of m dump) t a (parts_with r s).parts y pauses first shown sets (subst (λ b. AreWritersOf d b y.sets.tables.things y.sets.writers) (sym (fun_ext of.bound)) writers)
+          (subst (λ vs. AreDumped d m.codes vs (dump.values t)) (sym values) given)
+          (subst AreUnsigned (sym values) unsigned)
+          none
+          (subst (λ fs. AtRest d points after y.store fs y.marks y.seen) (sym acted)
+          (subst (λ ms. AtRest d points after y.store s.acted.items ms y.seen) (sym same)
+          (subst (λ ts. AtRest d points after y.store s.acted.items s.notes.marks ts) (sym seen)
+          (record {
+            knows = knows;
+            acted = pauses.rest.acted;
+            points = pauses.rest.points;
+            marks = pauses.rest.marks;
+            seen = pauses.rest.seen;
+          })))) (told ∙ forgotten.told)
 
-    -- where some bit contradicts it no run shows the dump
-    pub refuted_at : (c : Cell) (last : List (Option Vector)) (found : Difference) (made : List Partly) → AreDumped d m.codes last (dump.values t) → contradicts_first d dump.bound (runs_of d) m.tables (dump.values t) c ≡ true
-        → IsDifference m.codes last made found → IsRefuted d (habit_of h) dump t found.signal found.dumped found.computed.bits
-    refuted_at c last found made given differs is = record {
-      contradicted = against_first (subject_of m dump) t c (is_subject dump of) first shown differs;
-      says = dumped_is d m.codes last (dump.values t) found.signal is.code found.dumped given is.coded is.dumped;
-      differ = is.differ;
-    }
+      -- and nothing is known of a word
+      pub starts_words : IsForgotten d r s → FirstWordsLaw → HasWords d after.kept s.notes.written.ranges r.words
+      starts_words forgotten law =
+          words_stay d nothing after.kept s.notes.written.ranges r.words (λ c is. law d dump.bound (runs_of d) m.tables (dump.values t) a c replayable.lawful pauses.subject.is.tabled is) forgotten.words
 
--- ---- the sizes
+      -- where some bit contradicts it no run shows the dump
+      pub refuted_at : (c : Cell) (found : Difference) (made : List Partly) → contradicts_first d dump.bound (runs_of d) m.tables (dump.values t) a c ≡ true
+          → IsDifference m.codes s.values.last made found → IsRefuted d (habit_of h) dump t found.signal found.dumped found.computed.bits
+      refuted_at c found made differs is = record {
+        contradicted = against_first (subject_of m dump) t a (parts_with r s).parts c pauses first shown differs;
+        says = dumped_is d m.codes s.values.last (dump.values t) found.signal is.code found.dumped given is.coded is.dumped;
+        differ = is.differ;
+      }
 
-filter_short : (test : ℕ → Bool) (xs : List ℕ) → length (filter test xs) ≤ length xs
-filter_short test [] = omega arith
-filter_short test (x ∷ xs) = chosen (test x) (filter test xs) (filter_short test xs)
-  where
-    chosen : (b : Bool) (ys : List ℕ) → length ys ≤ length xs → length (if b then x ∷ ys else ys) ≤ length (x ∷ xs)
-    chosen true ys l = omega (arith, l)
-    chosen false ys l = omega (arith, l)
-
--- at most as many Assigns run as there are processes
-pub few_run : (d : Design) (x : ReplayTables) (ran : List ℕ) (test : ℕ → Bool) → FitsTables d x → ran ≡ filter test (x.processes.order.items ++ x.processes.last.items) → length ran ≤ length d.processes
-few_run d x ran test fits is =
-    let all = x.processes.order.items ++ x.processes.last.items in
-    let few = fits.ranked.few in
-    let short = filter_short test all in
-    let same = ap length is in
-    omega (arith, few, short, same)
+-- ---- what was found
 
 -- a signal that was compared with the dump is one of the design
 pub compared_below : (d : Design) (x : ReplayTables) (last : List (Option Vector)) (found : Difference) (made : List Partly) → FitsTables d x → IsDifference x.step.codes.items last made found → found.signal < length d.signals

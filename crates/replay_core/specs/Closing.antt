@@ -1,9 +1,8 @@
 -- What the first step and a closing step do to the parts of a replay.
 use Rattle.std.specs.Prelude.{◌≡◌, ℕ, Bool, suc}
-use Rattle.code_values.specs.Values.{Values}
 use Rattle.design_model.specs.Shows.{BoundDump, IsFirst, IsShown, IsWindow}
 use Rattle.dump_check.specs.declared.order.Difference.{Difference}
-use Rattle.replay_follows.specs.Follows.{Subject}
+use Rattle.replay_follows.specs.Follows.{Pauses, Subject}
 use Rattle.replay_follows.specs.Laws.{AreGiven}
 use Rattle.replay_model.specs.Step.{Replay}
 use Rattle.hidden_times.specs.Hidden.{is_listed}
@@ -36,14 +35,15 @@ Refutes m end listed x found = ForDue m end listed x (λ dump t. IsRefuted m.des
 abbrev pub Counts : Made → ℕ → Bool → Following → ℕ → ℕ → Type 0
 Counts m end listed x before after = ForDue m end listed x (λ dump t. CountsSensitive m.design dump t before after)
 
--- a fact of each dump of which this is the first time, where it has these values
-abbrev pub ForFirst : Made → ℕ → Values → (BoundDump → Type 0) → Type 0
-ForFirst m t values holds = (dump : BoundDump) → IsDumpFor m dump → IsFirst dump t → IsShown dump t → AreDumped m.design m.codes values.last (dump.values t) → holds dump
+-- a fact of each dump for which the parts are paused at this time, where it is the first of a stretch with these values
+abbrev pub ForFirst : Made → ℕ → Following → (BoundDump → Type 0) → Type 0
+ForFirst m t x holds =
+    (dump : BoundDump) (a : Replay) → IsDumpFor m dump → Pauses (subject_of m dump) t a x.parts → IsFirst dump t → IsShown dump t → AreDumped m.design m.codes x.parts.values.last (dump.values t) → holds dump
 
--- after the first step the parts have followed each such dump up to its first time
-abbrev pub Starts : Made → ℕ → Values → Following → Type 0
-Starts m t values y = ForFirst m t values (λ dump. (b : Replay) × HasFollows (subject_of m dump) t b y)
+-- after the first step the parts have followed each such dump up to this time
+abbrev pub Starts : Made → ℕ → Following → Following → Type 0
+Starts m t x y = ForFirst m t x (λ dump. (b : Replay) × HasFollows (subject_of m dump) t b y)
 
 -- what was found refutes each such dump
-abbrev pub RefutesFirst : Made → ℕ → Values → Difference → Type 0
-RefutesFirst m t values found = ForFirst m t values (λ dump. IsRefuted m.design (habit_of m.habit) dump t found.signal found.dumped found.computed.bits)
+abbrev pub RefutesFirst : Made → ℕ → Following → Difference → Type 0
+RefutesFirst m t x found = ForFirst m t x (λ dump. IsRefuted m.design (habit_of m.habit) dump t found.signal found.dumped found.computed.bits)

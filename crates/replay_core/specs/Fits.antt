@@ -14,18 +14,15 @@ use Rattle.cover_points.specs.design_machines.state_machines.Machines.{StateMach
 use Rattle.early_sets.specs.WakeState.{WakeState, state_of}
 use Rattle.four_state.specs.Vector.{Vector}
 use Rattle.index_sets.specs.Rows.{row_at}
-use Rattle.first_step.specs.mark_laws.Marked.{AreVerdicts}
 use Rattle.machine_index.specs.Index.{IsIndexOf}
 use Rattle.model_laws.specs.Own.{HasOwnWakes}
 use Rattle.process_order.specs.Tables.{tables_of}
 use Rattle.replay_model.specs.Tables.{AreTables}
 use Rattle.run_order.specs.Ranked.{AreRanksOf}
 use Rattle.first_step.specs.settling.Runs.{HasRows}
-use Rattle.signal_marks.specs.Seen.{AreSeen}
 use Rattle.first_step.specs.step_changes.Changes.{AreSignalsOf, AreUnsigned}
 use Rattle.first_step.specs.step_check.Checks.{AreCheckRows}
 use Rattle.step_runs.specs.Rows.{AreWrittenRows}
-use Rattle.step_start.specs.step_parts.AtStep.{flag_at}
 use Rattle.first_step.specs.step_values.Loose.{has_code}
 use Rattle.first_step.specs.step_values.Vectors.{FitsSignals}
 use Rattle.first_step.specs.step_wakes.Step.{IsOfDesign}
@@ -37,7 +34,7 @@ use Rattle.written_words.specs.Same.{FollowsAll}
 use Rattle.written_words.specs.Written.{WrittenState}
 use Rattle.replay_core.specs.Codes.{flags_of}
 use Rattle.replay_core.specs.declared.fault.Phase.{Phase}
-use Rattle.replay_core.specs.declared.fault.Phase.TheVariants.{New, Refused, Started}
+use Rattle.replay_core.specs.declared.fault.Phase.TheVariants.{Paused, Refused, Started}
 use Rattle.replay_core.specs.declared.fault.ReplayFault.{ReplayFault}
 use Rattle.replay_core.specs.declared.fault.ReplayFault.TheVariants.{Contradiction, NoBaseline}
 use Rattle.replay_core.specs.declared.room.ReplayRoom.{ReplayRoom}
@@ -139,13 +136,10 @@ pub record FitsParts (d : Design) (points : Points) (x : ReplayTables) (r : Repl
   pub state : FitsState d points x s
   pub words : FitsWords d x s.notes.written r.words
 
--- nothing is known of a signal or word, no Comb has acted, no point is marked, and the states of no machine were
-pub record IsUntouched (d : Design) (points : Points) (r : ReplayRoom) (s : ReplayState) : Type 0 where
+-- nothing is known of a signal or word, and the states of no machine were told
+pub record IsForgotten (d : Design) (r : ReplayRoom) (s : ReplayState) : Type 0 where
   pub knows : Knows d nothing s.store
   pub words : HasWords d nothing s.notes.written.ranges r.words
-  pub acted : (p : ℕ) → flag_at s.acted.items p ≡ false
-  pub marks : AreVerdicts d points [] s.notes.marks.verdicts
-  pub seen : AreSeen d points s.seen s.notes.marks.verdicts
   pub told : s.machines.told ≡ false
 
 -- each signal with a code has a value
@@ -163,7 +157,7 @@ pub record FitsReplay (d : Design) (points : Points) (x : ReplayTables) (r : Rep
   pub parts : FitsParts d points x r s
   pub none : r.step.list.pairs ≡ []
   pub none_clocked : r.step.clocked.pairs ≡ []
-  pub untouched : phase ≡ New → IsUntouched d points r s
+  pub forgotten : phase ≡ Paused → IsForgotten d r s
   pub begun : phase ≡ Started → HaveValues x.step.codes.items s.values.last
   pub closed : phase ≡ Started → HaveValues x.step.codes.items s.values.closed
   pub refused : (fault : ReplayFault) → phase ≡ Refused fault → signal_of fault < length d.signals

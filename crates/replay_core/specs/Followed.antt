@@ -9,12 +9,13 @@ use Rattle.design_model.specs.Shows.{BoundDump, IsListed, IsWindow}
 use Rattle.four_state.specs.declared.bit.Bit.{Bit}
 use Rattle.hidden_times.specs.Hidden.{is_listed}
 use Rattle.first_step.specs.mark_laws.Marked.{AreVerdicts}
+use Rattle.replay_follows.specs.Follows.{Pauses}
 use Rattle.replay_model.specs.Laws.{AreReasonedVerdicts, AreSoundVerdicts}
 use Rattle.replay_model.specs.Step as model
 use Rattle.first_step.specs.step_values.Dumped.{AreDumped}
 use Rattle.wake_laws.specs.Laws.{habit_of}
 use Rattle.replay_core.specs.Made.{HasFollows, IsDumpFor, Made, subject_of}
-use Rattle.replay_core.specs.Parts.{IsStarted, given_of, made_of, parts_of}
+use Rattle.replay_core.specs.Parts.{IsPausedPhase, IsStarted, given_of, made_of, parts_of}
 use Rattle.replay_core.specs.declared.replay.Replay.{Replay}
 
 -- the values that the dump gave last are those at this time
@@ -27,6 +28,13 @@ pub record HasFollowed (x : Replay) (dump : BoundDump) (t : ℕ) : Type 0 where
   pub started : IsStarted x
   pub replay : model.Replay
   pub follows : HasFollows (subject_of (made_of x) dump) t replay (parts_of x)
+
+-- the replay has followed all that the dump shows before a time, and has closed no step of what comes then
+pub record HasPaused (x : Replay) (dump : BoundDump) (u : ℕ) : Type 0 where
+  pub dumped : IsDumpFor (made_of x) dump
+  pub off : IsPausedPhase x
+  pub replay : model.Replay
+  pub pauses : Pauses (subject_of (made_of x) dump) u replay (parts_of x).parts
 
 -- after this time the next one of the dump's window is this, which the dump lists or not
 pub record IsStepAt (dump : BoundDump) (t end : ℕ) (listed : Bool) : Type 0 where

@@ -4,7 +4,7 @@ use Rattle.design_model.specs.View.{design_view}
 use Rattle.four_state.specs.Vector.{Vector}
 use Rattle.replay_core.specs.Fits.{FitsReplay}
 use Rattle.replay_core.specs.Made.{Following, Made, made_with, parts_with}
-use Rattle.replay_core.specs.declared.fault.Phase.TheVariants.{New, Refused, Started}
+use Rattle.replay_core.specs.declared.fault.Phase.TheVariants.{Paused, Refused, Started}
 use Rattle.replay_core.specs.declared.fault.ReplayFault.{ReplayFault}
 use Rattle.replay_core.specs.declared.replay.Replay.{Replay}
 
@@ -24,11 +24,11 @@ given_of x = x.state.values.last
 abbrev pub IsReady : Replay → Type 0
 IsReady x = FitsReplay (design_view x.design.now) x.state.notes.points.now x.tables.value x.room.value x.state x.phase
 
--- no step was closed, and none was refused
-abbrev pub IsNew : Replay → Type 0
-IsNew x = x.phase ≡ New
+-- no step of a stretch was closed, and none was refused
+abbrev pub IsPausedPhase : Replay → Type 0
+IsPausedPhase x = x.phase ≡ Paused
 
--- the first step was closed, and none was refused
+-- the first step of a stretch was closed, and none was refused
 abbrev pub IsStarted : Replay → Type 0
 IsStarted x = x.phase ≡ Started
 

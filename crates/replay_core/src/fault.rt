@@ -4,7 +4,7 @@ use known_state::Known;
 /// Why a replay does not go on.
 #[derive(Clone, Copy)]
 pub enum ReplayFault {
-    /// This signal has a code, and the dump gives it no value before the second time. No signal before it lacks one.
+    /// This signal has a code, and a stretch of the dump gives it no value before its second time. No signal before it lacks one.
     NoBaseline {
         signal: u32,
     },
@@ -24,8 +24,8 @@ pub enum ReplayFault {
 /// How far a replay has come.
 #[derive(Clone, Copy)]
 pub(crate) enum Phase {
-    /// No step was closed.
-    New,
+    /// No step of the stretch was closed, and nothing is known.
+    Paused,
     /// The first step was closed.
     Started,
     /// A step was refused for this.

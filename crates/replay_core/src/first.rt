@@ -1,10 +1,10 @@
-//! The first step.
+//! The first step of a stretch.
 
 ghost use Rattle.std.specs.Prelude.{◌≡◌, ◌+◌, ◌<◌, ◌≤◌, [], IfNone, IfSome, ℕ, length};
 ghost use Rattle.design_model.specs.View.{design_view};
 ghost use Rattle.early_sets.specs.declared.habit.Habit.{Habit};
 ghost use Rattle.replay_core.specs.Closing.{RefutesFirst, Starts};
-ghost use Rattle.replay_core.specs.Fits.{FitsParts, HaveValues, IsReplayable, IsUntouched};
+ghost use Rattle.replay_core.specs.Fits.{FitsParts, HaveValues, IsForgotten, IsReplayable};
 ghost use Rattle.replay_core.specs.Made.{made_with, parts_with};
 
 use crate::room::ReplayRoom;
@@ -19,7 +19,8 @@ use std::sync::ledger::Ledger;
 use step_counts::Steps;
 use step_runs::words_law;
 
-/// Closes the first step, where each signal with a code has a value. The result is the signal that contradicts it, if there is one.
+/// Closes the first step of a stretch, where each signal with a code has a value. The result is the signal that contradicts it, if
+/// there is one.
 pub(crate) fn run_first_step<L: Ledger>(
     design: &Design,
     tables: &ReplayTables,
@@ -31,7 +32,7 @@ pub(crate) fn run_first_step<L: Ledger>(
     requires fits { FitsParts (design_view design.now) state.old.notes.points.now tables.now room.old state.old }
     requires none { room.old.step.list.pairs ≡ [] }
     requires none_clocked { room.old.step.clocked.pairs ≡ [] }
-    requires untouched { IsUntouched (design_view design.now) state.old.notes.points.now room.old state.old }
+    requires forgotten { IsForgotten (design_view design.now) room.old state.old }
     requires given { HaveValues tables.now.step.codes.items state.old.values.last }
     ensures fits { FitsParts (design_view design.now) state.old.notes.points.now tables.now room.new state.new }
     ensures none { room.new.step.list.pairs ≡ [] }
@@ -39,8 +40,8 @@ pub(crate) fn run_first_step<L: Ledger>(
     ensures points { state.new.notes.points.now ≡ state.old.notes.points.now }
     ensures values { state.new.values.last ≡ state.old.values.last }
     ensures closed { state.new.values.closed ≡ state.old.values.last }
-    ensures starts { IfNone result ((h : Habit) (t : ℕ) → Starts (made_with (design_view design.now) h state.old.notes.points.now tables.now) t state.old.values (parts_with room.new state.new)) }
-    ensures refutes { IfSome result (λ found. (h : Habit) (t : ℕ) → RefutesFirst (made_with (design_view design.now) h state.old.notes.points.now tables.now) t state.old.values found) }
+    ensures starts { IfNone result ((h : Habit) (t : ℕ) → Starts (made_with (design_view design.now) h state.old.notes.points.now tables.now) t (parts_with room.old state.old) (parts_with room.new state.new)) }
+    ensures refutes { IfSome result (λ found. (h : Habit) (t : ℕ) → RefutesFirst (made_with (design_view design.now) h state.old.notes.points.now tables.now) t (parts_with room.old state.old) found) }
     ensures named { IfSome result (λ found. found.signal < length design.now.signals) }
     ensures steps { steps.new ≤ steps.old + length design.now.processes }
 {
@@ -51,6 +52,7 @@ pub(crate) fn run_first_step<L: Ledger>(
         &mut state.store,
         &mut room.step.values,
         &state.values,
+        state.acted.as_slice(),
         &rows,
         &tables.processes,
         &tables.checks,

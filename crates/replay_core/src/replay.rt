@@ -1,16 +1,15 @@
-ghost use Rattle.std.specs.Prelude.{◌≡◌, ◌≤◌, ◌+◌, ◌-◌, ◌↔◌, ◌<◌, [], ℕ, Err, IfErr, IfOk, IsFalse, None, OnOk, Some, false, length, slice_index_or, slice_set, suc};
+ghost use Rattle.std.specs.Prelude.{◌≡◌, ◌≤◌, ◌+◌, ◌-◌, ◌↔◌, ◌<◌, ℕ, Err, IfErr, IfOk, IsFalse, None, OnOk, Some, false, length, slice_index_or, slice_set, suc};
 ghost use Rattle.code_values.specs.Values.{IsFirstMissing, value_of};
 ghost use Rattle.cover_marks.specs.Marks.{AreMarksOf};
 ghost use Rattle.cover_points.specs.Listed.{points_of};
 ghost use Rattle.cover_points.specs.Visits.{ArePlaced};
 ghost use Rattle.cover_points.specs.declared.listing.Points.{Points as ThePoints};
 ghost use Rattle.design_model.specs.Design.{signal_at};
-ghost use Rattle.design_model.specs.Shows.{BoundDump, IsFirst, IsShown};
+ghost use Rattle.design_model.specs.Shows.{BoundDump, IsFirst, IsShown, NoneShown};
 ghost use Rattle.design_model.specs.View.{design_view};
 ghost use Rattle.dump_check.specs.declared.order.Difference.{Difference as Found};
 ghost use Rattle.four_state.specs.Vector.{Vector};
 ghost use Rattle.known_state.specs.Partly.{Partly};
-ghost use Rattle.first_step.specs.mark_laws.Marked.{AreVerdicts};
 ghost use Rattle.replay_follows.specs.Laws.{IsLastStep};
 ghost use Rattle.wake_laws.specs.Laws.{habit_of};
 ghost use Rattle.replay_core.specs.Faults.{IsContradiction, fault_at, phase_after};
@@ -25,11 +24,13 @@ ghost use Rattle.replay_core.specs.declared.fault.Phase.TheVariants as phase;
 use crate::ReplayFault;
 use crate::fault::Phase;
 use crate::first::run_first_step;
+use crate::pausing::forget_values;
 use crate::room::{ReplayRoom, make_room};
 use crate::rows::{bound_flags, past_codes};
 use crate::state::{ReplayState, make_state};
 use crate::step::run_step;
 use crate::tables::{ReplayTables, make_tables};
+use body_replay::runs_lawful;
 use cov_host::NoMemory;
 use cover_marks::Marks;
 use cover_points::{MOST_POINTS, Points};
@@ -70,8 +71,8 @@ impl Drop for Replay<'_> {
 }
 
 impl<'a> Replay<'a> {
-    ghost use Rattle.replay_core.specs.Followed.{AreFinal, AreGivenAt, AreHidden, HasFollowed, IsNextStep, IsStepAt};
-    ghost use Rattle.replay_core.specs.Parts.{HasRefused, IsNew, IsReady, IsStarted, given_of, made_of, without_sign};
+    ghost use Rattle.replay_core.specs.Followed.{AreFinal, AreGivenAt, AreHidden, HasFollowed, HasPaused, IsNextStep, IsStepAt};
+    ghost use Rattle.replay_core.specs.Parts.{HasRefused, IsPausedPhase, IsReady, IsStarted, given_of, made_of, without_sign};
 
     /// The replay of the dumps of a design whose inputs move by this habit, of which these are the points, and of which this is the code of
     /// each signal that the dump has. Nothing is known of any signal, no step is closed and no point is marked. All memory that is ever needed is taken
@@ -88,7 +89,8 @@ impl<'a> Replay<'a> {
         requires few { length (points_of points.now) ≤ MOST_POINTS }
         requires codes { length codes.items ≡ length design.now.signals }
         ensures ready { IfOk result IsReady }
-        ensures new { IfOk result IsNew }
+        ensures off { IfOk result IsPausedPhase }
+        ensures paused { IfOk result (λ replay. (dump : BoundDump) (u : ℕ) → IsDumpFor (made_of replay) dump → ((v : ℕ) → v < u → IsShown dump v → ⊥) → HasPaused replay dump u) }
         ensures design { IfOk result (λ replay. (made_of replay).design ≡ design_view design.now) }
         ensures habit { IfOk result (λ replay. (made_of replay).habit ≡ habit) }
         ensures points { IfOk result (λ replay. (made_of replay).points ≡ points.now) }
@@ -96,6 +98,7 @@ impl<'a> Replay<'a> {
         ensures within { IfOk result (λ replay. (s code : ℕ) → slice_index_or codes.items s None ≡ Some code → code < length (given_of replay)) }
         ensures values { IfOk result (λ replay. (code : ℕ) → value_of (given_of replay) code ≡ None) }
     {
+        runs_lawful();
         let bound = bound_flags(alloc, codes.as_slice())?;
         let count = past_codes(codes.as_slice());
         let tables = make_tables(alloc, design, codes, bound.as_slice(), count)?;
@@ -114,7 +117,7 @@ impl<'a> Replay<'a> {
             tables,
             room,
             state,
-            phase: Phase::New,
+            phase: Phase::Paused,
         })
     }
 
@@ -128,23 +131,25 @@ impl<'a> Replay<'a> {
         ensures phase { self.new.phase ≡ self.old.phase }
         ensures values { given_of self.new ≡ slice_set (given_of self.old) code (Some (without_sign value.now)) }
         ensures followed { (dump : BoundDump) (t : ℕ) → HasFollowed self.old dump t → HasFollowed self.new dump t }
+        ensures paused { (dump : BoundDump) (u : ℕ) → HasPaused self.old dump u → HasPaused self.new dump u }
     {
         self.state.values.set(code, unsigned(value));
     }
 
-    /// Whether the first step was closed, or a step was refused.
+    /// Whether the first step of a stretch was closed, or a step was refused.
     pub fn has_started(&self) -> bool
-        ensures { IsFalse result ↔ IsNew self.now }
+        ensures { IsFalse result ↔ IsPausedPhase self.now }
     {
         match self.phase {
-            Phase::New => false,
+            Phase::Paused => false,
             Phase::Started | Phase::Refused(_) => true,
         }
     }
 
-    /// Closes the first step, at the first time of the dump. Where a signal with a code has no value, the fault is that; else it is
-    /// that an Assign makes something else of a signal than what the dump says. After a fault the same fault is the result of each
-    /// call, and the marks stay. It takes time for the design, and no memory; each Assign runs once.
+    /// Closes the first step of a stretch, at its first time. Where a signal with a code has no value, the fault is that; else it is
+    /// that an Assign, or a Comb that has acted before, makes something else of a signal than what the dump says. After a fault the
+    /// same fault is the result of each call, and the marks stay. It takes time for the design, and no memory; each Assign runs once,
+    /// and so does each such Comb.
     pub fn start<L: Ledger>(&mut self, time: u64, steps: &mut Steps<L>) -> Result<(), ReplayFault>
         requires ready { IsReady self.old }
         requires once { IsStarted self.old → ⊥ }
@@ -153,13 +158,13 @@ impl<'a> Replay<'a> {
         ensures values { given_of self.new ≡ given_of self.old }
 
         ensures started { OnOk result (IsStarted self.new) }
-        ensures followed { OnOk result ((dump : BoundDump) → IsDumpFor (made_of self.old) dump → IsFirst dump time → IsShown dump time → AreGivenAt self.old dump time → HasFollowed self.new dump time) }
+        ensures followed { OnOk result ((dump : BoundDump) → HasPaused self.old dump time → IsFirst dump time → IsShown dump time → AreGivenAt self.old dump time → HasFollowed self.new dump time) }
 
         ensures refused { IfErr result (HasRefused self.new) }
-        ensures missing { (s : ℕ) → IsNew self.old → result ≡ Err (fault_is.NoBaseline s) → IsFirstMissing (given_of self.old) (made_of self.old).codes s }
-        ensures contradiction { IfErr result (λ fault. (dump : BoundDump) → IsNew self.old → IsDumpFor (made_of self.old) dump → IsFirst dump time → IsShown dump time → AreGivenAt self.old dump time
+        ensures missing { (s : ℕ) → IsPausedPhase self.old → result ≡ Err (fault_is.NoBaseline s) → IsFirstMissing (given_of self.old) (made_of self.old).codes s }
+        ensures contradiction { IfErr result (λ fault. (dump : BoundDump) → HasPaused self.old dump time → IsFirst dump time → IsShown dump time → AreGivenAt self.old dump time
             → IsContradiction (made_of self.old).design (habit_of (made_of self.old).habit) dump time fault) }
-        ensures valued { (s t : ℕ) (dumped : Vector) (computed : Partly) → IsNew self.old → result ≡ Err (fault_is.Contradiction s t dumped computed) → HaveValues (made_of self.old).codes (given_of self.old) }
+        ensures valued { (s t : ℕ) (dumped : Vector) (computed : Partly) → IsPausedPhase self.old → result ≡ Err (fault_is.Contradiction s t dumped computed) → HaveValues (made_of self.old).codes (given_of self.old) }
         ensures again { (fault : TheFault) → HasRefused self.old fault → (result ≡ Err fault) × (self.new ≡ self.old) }
         ensures named { IfErr result (λ fault. signal_of fault < length (made_of self.old).design.signals) }
 
@@ -183,17 +188,17 @@ impl<'a> Replay<'a> {
         self.end(found, time)
     }
 
-    /// Closes a later step, which ends at this time. The fault is that a process makes something else of a signal than what the dump
-    /// says, or that a signal has changed which nothing moves. After a fault the same fault is the result of each call, and the
-    /// marks stay. It takes no memory, and time for what changes and may move in the step; each process that mentions or lists what
-    /// may move runs once.
+    /// Closes a later step of the stretch, which ends at this time. The fault is that a process makes something else of a signal than
+    /// what the dump says, or that a signal has changed which nothing moves. After a fault the same fault is the result of each call,
+    /// and the marks stay. It takes no memory, and time for what changes and may move in the step; each process that mentions or lists
+    /// what may move runs once.
     pub fn close_step<L: Ledger>(
         &mut self,
         time: u64,
         steps: &mut Steps<L>,
     ) -> Result<(), ReplayFault>
         requires ready { IsReady self.old }
-        requires started { IsNew self.old → ⊥ }
+        requires started { IsPausedPhase self.old → ⊥ }
         ensures ready { IsReady self.new }
         ensures made { made_of self.new ≡ made_of self.old }
         ensures values { given_of self.new ≡ given_of self.old }
@@ -223,7 +228,7 @@ impl<'a> Replay<'a> {
         steps: &mut Steps<L>,
     ) -> Result<(), ReplayFault>
         requires ready { IsReady self.old }
-        requires started { IsNew self.old → ⊥ }
+        requires started { IsPausedPhase self.old → ⊥ }
         ensures ready { IsReady self.new }
         ensures made { made_of self.new ≡ made_of self.old }
         ensures values { given_of self.new ≡ given_of self.old }
@@ -256,12 +261,33 @@ impl<'a> Replay<'a> {
         self.close_at(first, false, steps)
     }
 
+    /// The dump is off from here: nothing is known any more, no code has a value, and the next step is the first of another stretch.
+    /// The marks stay, and so does which Combs have acted. After a fault nothing changes. It takes time for the design's signals,
+    /// the codes and the words of its memories, and no memory.
+    pub fn pause(&mut self)
+        requires ready { IsReady self.old }
+        ensures ready { IsReady self.new }
+        ensures made { made_of self.new ≡ made_of self.old }
+        ensures off { ((fault : TheFault) → HasRefused self.old fault → ⊥) → IsPausedPhase self.new }
+        ensures values { ((fault : TheFault) → HasRefused self.old fault → ⊥) → (code : ℕ) → value_of (given_of self.new) code ≡ None }
+        ensures count { length (given_of self.new) ≡ length (given_of self.old) }
+        ensures followed { (dump : BoundDump) (t u : ℕ) → HasFollowed self.old dump t → t < u → NoneShown dump t u → HasPaused self.new dump u }
+        ensures stays { (dump : BoundDump) (u v : ℕ) → HasPaused self.old dump u → u ≤ v → ((w : ℕ) → u ≤ w → w < v → IsShown dump w → ⊥) → HasPaused self.new dump v }
+        ensures refused { (fault : TheFault) → HasRefused self.old fault → self.new ≡ self.old }
+    {
+        if let Phase::Refused(_) = self.phase {
+            return;
+        }
+        forget_values(self.design, &mut self.room, &mut self.state);
+        self.phase = Phase::Paused;
+    }
+
     /// The marks of the points. Where no step of the dump's window is left, they are its verdicts.
     pub fn finish(self) -> Marks
         requires ready { IsReady self }
         ensures points { AreMarksOf (made_of self.entry).points result }
         ensures followed { (dump : BoundDump) (t : ℕ) → HasFollowed self.entry dump t → IsLastStep dump t → AreFinal (made_of self.entry) dump result }
-        ensures new { IsNew self.entry → AreVerdicts (made_of self.entry).design (made_of self.entry).points [] result.verdicts }
+        ensures paused { (dump : BoundDump) (u : ℕ) → HasPaused self.entry dump u → ((v : ℕ) → IsShown dump v → v < u) → AreFinal (made_of self.entry) dump result }
     {
         let Replay {
             design: _,
@@ -283,7 +309,7 @@ impl<'a> Replay<'a> {
         steps: &mut Steps<L>,
     ) -> Result<(), ReplayFault>
         requires ready { IsReady self.old }
-        requires started { IsNew self.old → ⊥ }
+        requires started { IsPausedPhase self.old → ⊥ }
         ensures ready { IsReady self.new }
         ensures made { made_of self.new ≡ made_of self.old }
         ensures values { given_of self.new ≡ given_of self.old }

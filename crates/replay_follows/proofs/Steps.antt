@@ -1,12 +1,14 @@
 -- From one closed step to the next.
-use Rattle.std.proofs.Common.{◌≡◌, ℕ, zero, suc, ◌+◌, ◌-◌, ◌<◌, ◌≤◌, List, [], ◌∷◌, Some, None, sym, ap, subst, ◌∙◌, inl, inr, arith}
+use Rattle.std.proofs.Common.{◌≡◌, ℕ, zero, suc, ◌+◌, ◌-◌, ◌<◌, ◌≤◌, [], ◌∷◌, Some, None, sym, ap, subst, ◌∙◌, arith}
 use Rattle.std.specs.Prelude.{slice_index_or}
-use Rattle.std.proofs.lemmas.Bool.{cases_lt, false≢true}
+use Rattle.std.proofs.lemmas.Bool.{false≢true}
 use Rattle.four_state.specs.Vector.{Vector}
 use Rattle.code_values.specs.Values.{value_of}
 use Rattle.step_parts.specs.cover_points.Listed.{points_of}
 use Rattle.design_model.specs.Design.{signal_bits}
-use Rattle.design_model.specs.Shows.{BoundDump, IsListed, IsShownOf, IsWindowOf}
+use Rattle.design_model.specs.Shows.{BoundDump, InSome, IsListed, IsShownOf, IsWindow}
+use Rattle.design_model.proofs.Stretches.{between, shown_then}
+use Rattle.step_parts.proofs.replay_model.Pausing.{new_paused_law, paused_later_law, paused_law, paused_verdict_law}
 use Rattle.step_parts.proofs.replay_model.ReasonedLaws.{reasoned_verdict_law}
 use Rattle.step_parts.proofs.replay_model.SoundLaws.{contradiction_law, first_contradiction_law, sound_verdict_law}
 use Rattle.step_parts.proofs.replay_model.StandsLaws.{first_stands_law, step_stands_law}
@@ -18,26 +20,74 @@ use Rattle.step_parts.specs.step_values.Dumped.{AreDumped}
 use Rattle.step_parts.proofs.step_values.Bound.{bound_known}
 use Rattle.step_parts.specs.wake_laws.Laws.{habit_of}
 use Rattle.replay_follows.specs.Follows.{Follows, Parts, Subject}
-use Rattle.replay_follows.specs.Laws.{ClosedLaw, ContradictedLaw, DueLaw, FirstContradictedLaw, FirstLaw, GivenLaw, NextLaw, RestLaw, VerdictsLaw}
+use Rattle.replay_follows.specs.Laws.{ClosedLaw, ContradictedLaw, DueLaw, FirstContradictedLaw, FirstLaw, GivenLaw, NewPauseLaw, NextLaw, PauseLaterLaw, PauseLaw, PausedVerdictsLaw, RestLaw, VerdictsLaw}
 
 -- ---- the first step
 
 pub starts : FirstLaw
-starts f t x subject first shown sets writers closed unsigned none rest untold = record {
+starts f t a x y pauses first shown sets writers closed unsigned none rest untold =
+    let s = pauses.subject in
+    record {
+      subject = s;
+      sets = sets;
+      writers = writers;
+      closed = closed;
+      unsigned = unsigned;
+      rest = rest;
+      told = λ e. absurd (false≢true (sym untold ∙ e));
+      shown = shown;
+      stands = first_stands_law f.design (habit_of f.habit) f.dump f.run f.tables (points_of f.points) s.is s.wakes t a first shown pauses.paused none;
+    }
+
+pub against_first : FirstContradictedLaw
+against_first f t a x c pauses first shown differs r showing =
+    first_contradiction_law f.design (habit_of f.habit) f.dump f.run f.tables (points_of f.points) pauses.subject.is t a c first shown pauses.paused differs r showing
+
+-- ---- where the dump is off
+
+pub new_pauses : NewPauseLaw
+new_pauses f u x subject sets writers rest untold none = record {
   subject = subject;
   sets = sets;
   writers = writers;
-  closed = closed;
-  unsigned = unsigned;
   rest = rest;
-  told = λ e. absurd (false≢true (sym untold ∙ e));
-  shown = shown;
-  stands = first_stands_law f.design (habit_of f.habit) f.dump f.run f.tables (points_of f.points) subject.is subject.wakes t first shown none;
+  untold = untold;
+  paused = new_paused_law f.design (habit_of f.habit) f.dump (points_of f.points) u none;
 }
 
-pub against_first : FirstContradictedLaw
-against_first f t c subject first shown differs r showing =
-    first_contradiction_law f.design (habit_of f.habit) f.dump f.run f.tables (points_of f.points) subject.is t c first shown differs r showing
+pub pauses_now : PauseLaw
+pauses_now f t u a x y follows later none sets writers rest untold =
+    let s = follows.subject in
+    record {
+      subject = s;
+      sets = sets;
+      writers = writers;
+      rest = rest;
+      untold = untold;
+      paused = paused_law f.design (habit_of f.habit) f.dump f.run f.tables (points_of f.points) s.is t u a later none follows.stands;
+    }
+
+pub pauses_later : PauseLaterLaw
+pauses_later f u w a x le none pauses = record {
+  subject = pauses.subject;
+  sets = pauses.sets;
+  writers = pauses.writers;
+  rest = pauses.rest;
+  untold = pauses.untold;
+  paused = paused_later_law f.design (habit_of f.habit) f.dump f.run f.tables (points_of f.points) pauses.subject.is u w a le none pauses.paused;
+}
+
+pub paused_ends : PausedVerdictsLaw
+paused_ends f u a x before pauses =
+    let is = pauses.subject.is in
+    let both = paused_verdict_law f.design (habit_of f.habit) f.dump (points_of f.points) u a is.lawful is.fits is.rounds (λ v window. before v (shown_then f.dump.stretches v window)) pauses.paused in
+    record {
+      marks = pauses.rest.points;
+      verdicts = pauses.rest.marks;
+      sound = both.0;
+      reasoned = both.1;
+      forced = λ v s bits forced. pauses.paused.forced v s bits (before v forced.is_shown) forced;
+    }
 
 -- ---- between steps
 
@@ -53,11 +103,6 @@ given f t a x values same follows = record {
   shown = follows.shown;
   stands = follows.stands;
 }
-
--- a time of the window is shown
-shown_of : (ts : List ℕ) (t : ℕ) → IsWindowOf ts t → IsShownOf ts t
-shown_of [] t h = h
-shown_of (u ∷ us) t (after, before) = (omega (arith, after), before)
 
 -- over times that are not listed the values stay
 same_values : (dump : BoundDump) (stays : (t : ℕ) → (IsListed dump (suc t) → ⊥) → dump.values (suc t) ≡ dump.values t) (t n : ℕ) → ((u : ℕ) → t < u → u ≤ t + n → IsListed dump u → ⊥) → dump.values t ≡ dump.values (t + n)
@@ -81,14 +126,9 @@ stays f t (suc n) a x calm gap follows =
       unsigned = follows.unsigned;
       rest = follows.rest;
       told = follows.told;
-      shown = shown_of f.dump.times (t + suc n) last.0;
+      shown = shown_then f.dump.stretches (t + suc n) last.0;
       stands = rests f.design (habit_of f.habit) f.dump f.run f.tables (points_of f.points) s.is s.wakes t (suc n) a calm gap follows.stands;
     }
-
--- what is after a time that is shown and not after one of the window is of the window
-between : (ts : List ℕ) (t u time : ℕ) → IsShownOf ts t → IsWindowOf ts time → t < u → u ≤ time → IsWindowOf ts u
-between [] t u time shown window after within = shown
-between (w ∷ ws) t u time shown window after within = (omega (arith, shown.0, after), omega (arith, window.1, within))
 
 pub nexts : NextLaw
 nexts f t time a x calm later window gap follows =
@@ -96,7 +136,7 @@ nexts f t time a x calm later window gap follows =
     let end : time ≡ suc (t + n) = omega (arith, later) in (
       t + n,
       end,
-      stays f t n a x calm (λ u after within. (between f.dump.times t u time follows.shown window after (omega (arith, within, end)), gap u after (omega (arith, within, end)))) follows,
+      stays f t n a x calm (λ u after within. (between f.dump.stretches t u time follows.subject.is.fits.rising after (omega (arith, within, end)) gap follows.shown window, gap u after (omega (arith, within, end)))) follows,
     )
 
 -- ---- a step
@@ -139,7 +179,7 @@ closes f t a x y early follows given window sets of writers none values rest tol
       unsigned = subst AreUnsigned (sym values) given.unsigned;
       rest = rest;
       told = told;
-      shown = shown_of f.dump.times (suc t) window;
+      shown = shown_then f.dump.stretches (suc t) window;
       stands = step_stands_law (habit_of f.habit) f.design f.dump f.run f.tables (points_of f.points) s.is s.wakes t (sets_of y.sets early) a window sets none follows.stands;
     }
 
@@ -150,23 +190,16 @@ against f t a x sets early c follows window are differs r showing =
 
 -- ---- the end of the dump
 
--- where no time of the window is after a time that is shown, no time that is shown is
-shown_until : (ts : List ℕ) (t u : ℕ) → IsShownOf ts t → ((w : ℕ) → IsWindowOf ts w → w ≤ t) → IsShownOf ts u → u ≤ t
-shown_until [] t u shown last at = absurd shown
-shown_until (w ∷ ws) t u shown last at = elim (cases_lt t u) [
-  | inl later ↦ last u (omega (arith, shown.0, later), at.1)
-  | inr before ↦ before
-]
-
 pub ends : VerdictsLaw
 ends f t a x last follows =
     let is = follows.subject.is in
+    let until : (u : ℕ) → IsWindow f.dump u → u ≤ t = λ u window. last u (shown_then f.dump.stretches u window) in
     record {
       marks = follows.rest.points;
       verdicts = follows.rest.marks;
-      sound = sound_verdict_law f.design (habit_of f.habit) f.dump (points_of f.points) t a last follows.shown follows.stands.sound;
-      reasoned = reasoned_verdict_law f.design (habit_of f.habit) f.dump (points_of f.points) t a is.lawful is.fits is.rounds last follows.shown follows.stands.sound follows.stands.reasoned;
-      forced = λ u s bits forced. follows.stands.forced u s bits (shown_until f.dump.times t u follows.shown last forced.is_shown) forced;
+      sound = sound_verdict_law f.design (habit_of f.habit) f.dump (points_of f.points) t a until follows.shown follows.stands.sound;
+      reasoned = reasoned_verdict_law f.design (habit_of f.habit) f.dump (points_of f.points) t a is.lawful is.fits is.rounds until follows.shown follows.stands.sound follows.stands.reasoned;
+      forced = λ u s bits forced. follows.stands.forced u s bits (last u forced.is_shown) forced;
     }
 
 -- ---- what is refused
@@ -178,7 +211,7 @@ other_value f t a x s code v coded is other follows =
     let same : v ≡ w.0 = (let e = sym is ∙ w.1 in cc) in
     other (ap (λ (u : Vector). u.bits) same ∙ w.2)
 
-pub one_time : (f : Subject) (t u : ℕ) (a : Replay) (x : Parts) → f.dump.times ≡ u ∷ [] → Follows f t a x → ⊥
+pub one_time : (f : Subject) (t u : ℕ) (a : Replay) (x : Parts) → f.dump.stretches ≡ (u ∷ []) ∷ [] → Follows f t a x → ⊥
 one_time f t u a x single follows =
-    let shown : IsShownOf (u ∷ []) t = subst (λ ts. IsShownOf ts t) single follows.shown in
+    let shown : IsShownOf (u ∷ []) t = subst (λ tss. InSome (λ ts. IsShownOf ts t) tss) single follows.shown in
     omega (arith, shown.0, shown.1)

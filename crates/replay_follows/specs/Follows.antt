@@ -1,5 +1,5 @@
 -- A replay has followed a dump up to a time.
-use Rattle.std.specs.Prelude.{◌≡◌, ◌++◌, ℕ, Bool, true, List, length, Option}
+use Rattle.std.specs.Prelude.{◌≡◌, ◌++◌, ℕ, Bool, true, false, List, length, Option}
 use Rattle.bit_changes.specs.declared.toggles.Toggles.{Toggles}
 use Rattle.step_parts.specs.body_replay.Runs.{Runs}
 use Rattle.step_parts.specs.body_store.declared.store.Store.{Store}
@@ -16,6 +16,7 @@ use Rattle.early_sets.specs.declared.habit.Habit.{Habit}
 use Rattle.machine_laws.specs.Told.{AreTold}
 use Rattle.model_laws.specs.Own.{HasOwnWakes}
 use Rattle.step_parts.specs.replay_model.Laws.{IsReplayOf}
+use Rattle.step_parts.specs.replay_model.Paused.{IsPaused}
 use Rattle.step_parts.specs.replay_model.Stands.{Stands}
 use Rattle.step_parts.specs.replay_model.Step.{Replay}
 use Rattle.step_parts.specs.replay_model.Tables.{Tables}
@@ -79,3 +80,12 @@ pub record Follows (f : Subject) (t : ℕ) (a : Replay) (x : Parts) : Type 0 whe
   pub told : x.told ≡ true → AreTold f.design f.points a
   pub shown : IsShown f.dump t
   pub stands : Stands f.design (habit_of f.habit) f.dump f.tables (points_of f.points) t a
+
+-- these have followed all that the dump shows before a time, at which the replay is this and no step of a stretch is closed
+pub record Pauses (f : Subject) (u : ℕ) (a : Replay) (x : Parts) : Type 0 where
+  pub subject : IsSubject f
+  pub sets : IsOfDesign f.design f.flags x.sets
+  pub writers : HasWriters f x
+  pub rest : AtRest f.design f.points a x.store x.acted x.marks x.seen
+  pub untold : x.told ≡ false
+  pub paused : IsPaused f.design (habit_of f.habit) f.dump (points_of f.points) u a

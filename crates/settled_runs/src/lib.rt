@@ -9,4 +9,4 @@ mod run;
 pub use block_runs::{BlockNotes, Certainty, Doubt};
 pub use process_targets::Bits;
 pub use run::run_settled;
-pub use store_knowledge::{known_signal, new_store_law};
+pub use store_knowledge::{forget_all, known_signal, new_store_law};

@@ -1,20 +1,18 @@
--- The parts of the code after the run of an Assign in the first step.
-use Rattle.std.proofs.Common.{◌≡◌, ℕ, Bool, true, false, if◌then◌else◌, List, map, Option, refl, sym, ap, subst, ◌∙◌}
-use Rattle.std.proofs.lemmas.Bool.{false≢true}
+-- The parts of the code after a run in the first step of a stretch.
+use Rattle.std.proofs.Common.{◌≡◌, ℕ, Bool, true, if◌then◌else◌, List, map, Option, sym, ap, subst, ◌∙◌}
 use Rattle.event_machine.specs.Cell.{Values}
 use Rattle.four_state.specs.declared.bit.Bit.{Bit}
 use Rattle.known_state.specs.Partly.{Partly}
-use Rattle.design_model.specs.Design.{Design, IsClocked, is_assign, process_at, signal_cells}
+use Rattle.design_model.specs.Design.{Design, IsClocked, process_at, signal_cells}
 use Rattle.design_model.specs.Lawful.{IsLawfulDesign}
-use Rattle.design_model.specs.Tree.{Process, assign, clocked, comb}
 use Rattle.body_replay.specs.Contract.{Outcome, quiet}
 use Rattle.body_replay.specs.Runs.{AreRuns, runs_of}
 use Rattle.body_store.specs.declared.store.Store.{Store}
 use Rattle.settled_runs.specs.process_targets.Rows.{AreTargets}
 use Rattle.settled_runs.specs.process_targets.Targets.{names, row_has}
 use Rattle.settled_runs.specs.process_targets.declared.bits.Bits.{Bits}
-use Rattle.step_parts.specs.replay_model.Start.{Starting, after_first, run_first}
-use Rattle.step_parts.specs.replay_model.Step.{is_comb, plain_store, settled_kept}
+use Rattle.step_parts.specs.replay_model.Start.{Starting, after_first, run_first, runs_first}
+use Rattle.step_parts.specs.replay_model.Step.{Replay, plain_store, settled_kept}
 use Rattle.step_parts.specs.replay_model.Tables.{Tables}
 use Rattle.settled_runs.specs.store_knowledge.Knows.{Knows}
 use Rattle.settled_targets.specs.step_values.Loose.{has_code}
@@ -22,42 +20,27 @@ use Rattle.settled_targets.specs.step_values.Vectors.{StepVectors}
 use Rattle.settled_targets.specs.Returned.{Returns}
 use Rattle.settled_targets.specs.Saved.{AreSaved}
 use Rattle.settling.specs.First.{AtFirst}
-use Rattle.settling.proofs.Targets.{kept_is, made_is, shown_is}
+use Rattle.settling.proofs.Targets.{kept_is, made_is}
 
-assign_plain : (q : Process) → is_assign q ≡ true → is_comb q ≡ false
-assign_plain (assign i x t counted) e = refl
-assign_plain (comb i wakes s) e = absurd (false≢true e)
-assign_plain (clocked i events s) e = refl
-
-pub assign_settles : (q : Process) → is_assign q ≡ true → IsClocked q → ⊥
-assign_settles (assign i x t counted) e h = h
-assign_settles (comb i wakes s) e h = h
-assign_settles (clocked i events s) e h = absurd (false≢true e)
-
-module _ (d : Design) (bound : ℕ → Bool) (tables : Tables) (new : Values Bit) (w : Starting) (p : ℕ) (ordered : Bool) (row : List Bits) (codes : List (Option ℕ)) (x z y : Store) (v u : StepVectors) (qs : List Partly)
-    (lawful : IsLawfulDesign d) (runs : AreRuns d (runs_of d)) (is : is_assign (process_at d p) ≡ true) (targets : AreTargets d p row) (same : (s : ℕ) → bound s ≡ has_code codes s)
+module _ (d : Design) (bound : ℕ → Bool) (tables : Tables) (new : Values Bit) (before : Replay) (w : Starting) (p : ℕ) (ordered : Bool) (row : List Bits) (codes : List (Option ℕ)) (x z y : Store) (v u : StepVectors) (qs : List Partly)
+    (lawful : IsLawfulDesign d) (runs : AreRuns d (runs_of d)) (settles : IsClocked (process_at d p) → ⊥) (is : runs_first d bound (runs_of d) tables new before p ≡ true) (targets : AreTargets d p row) (same : (s : ℕ) → bound s ≡ has_code codes s)
     (at : AtFirst d bound w x v) (saved : AreSaved d w.kept row qs) (left : Knows d (runs_of d p (plain_store (settled_kept d p w.kept)) quiet).kept z)
     (back : Returns codes (names row) (row_has row) ordered true (λ e k. AreSaved e k row qs) z y v u) where
-  settles : IsClocked (process_at d p) → ⊥
-  settles = assign_settles (process_at d p) is
-
   abbrev o : Outcome
   o = runs_of d p (plain_store (settled_kept d p w.kept)) quiet
 
   abbrev after : Starting
-  after = after_first d bound (runs_of d) tables new ordered p o w
+  after = after_first d bound (runs_of d) tables new before ordered p o w
 
-  -- the Assign has run on what is kept
-  after_is : run_first d bound (runs_of d) tables new ordered p w ≡ after
-  after_is =
-      ap (λ t. if t then after_first d bound (runs_of d) tables new ordered p (runs_of d p (plain_store w.kept) quiet) w else w) is
-      ∙ ap (λ k. after_first d bound (runs_of d) tables new ordered p (runs_of d p (plain_store k) quiet) w) (shown_is d p row lawful settles targets w.kept (assign_plain (process_at d p) is))
+  -- it has run on what is kept
+  after_is : run_first d bound (runs_of d) tables new before ordered p w ≡ after
+  after_is = ap (λ t. if t then after_first d bound (runs_of d) tables new before ordered p o w else w) is
 
   known : Knows d after.kept y
   known = subst (λ j. Knows d j y) (kept_is d p row lawful settles targets runs w.kept quiet codes bound same ordered) (back.knows d w.kept o.kept saved left)
 
   -- all parts of the first step
-  pub first_after : AtFirst d bound (run_first d bound (runs_of d) tables new ordered p w) y u
+  pub first_after : AtFirst d bound (run_first d bound (runs_of d) tables new before ordered p w) y u
   first_after = subst (λ a. AtFirst d bound a y u) (sym after_is) (record {
     knows = known;
     fits = back.fits d at.fits;

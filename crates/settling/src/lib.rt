@@ -18,6 +18,6 @@ pub use change::certainty;
 pub use first::run_first;
 pub use parts::{Found, ProcessRows, Scratch};
 pub use process::run;
-pub use settled_runs::new_store_law;
+pub use settled_runs::{forget_all, new_store_law};
 pub use settled_targets::{SavedValues, StepValues, is_coded, put_dump};
 pub use wake_bits::{Wake, wake_rows};

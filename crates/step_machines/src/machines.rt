@@ -88,6 +88,14 @@ impl MachineMarks {
             );
         }
     }
+
+    /// The states of all machines are to be marked once more: after a gap in the dump they may be others.
+    pub fn forget(&mut self)
+        ensures index { self.new.index ≡ self.old.index }
+        ensures told { self.new.told ≡ false }
+    {
+        self.told = false;
+    }
 }
 
 /// Marks the states of all machines by what is known at this time.

@@ -1,5 +1,5 @@
 -- The Assigns and Combs start with the words that the Clocked have left.
-use Rattle.std.proofs.Common.{◌≡◌, ◌⊎◌, ⊎_elim, inl, inr, ltb-true, zero, suc, get_or, ℕ, ◌+◌, ◌<◌, ◌≤◌, ◌&&◌, Bool, true, false, not, if◌then◌else◌, List, [], ◌∷◌, ◌++◌, length, None, Some, refl, sym, ap, ◌∙◌, arith, nat_le, nat_lt}
+use Rattle.std.proofs.Common.{◌≡◌, ◌⊎◌, ⊎_elim, inl, inr, ltb-true, zero, suc, get_or, ℕ, ◌<◌, ◌≤◌, ◌&&◌, Bool, true, false, not, if◌then◌else◌, List, [], ◌∷◌, ◌++◌, length, None, Some, refl, sym, ap, ◌∙◌, arith, nat_le, nat_lt}
 use Rattle.std.specs.List.{list_any}
 use Rattle.std.proofs.lemmas.Bool.{and_parts, false_from_ne_true, false≢true, leb-true, or_cases}
 use Rattle.event_machine.specs.Cell.{Cell, Values as CellValues}
@@ -8,13 +8,13 @@ use Rattle.design_model.specs.BodyLaws.{all_cells}
 use Rattle.body_replay.specs.Contract.{quiet}
 use Rattle.body_replay.specs.Replay.{flush}
 use Rattle.body_replay.specs.Runs.{Runs}
-use Rattle.design_model.specs.Design.{Design, In, body_at, is_assign, is_memory, no_signal, process_at, signal_at}
+use Rattle.design_model.specs.Design.{Design, In, body_at, is_memory, no_signal, signal_at}
 use Rattle.design_model.specs.declared.design.Signal.{Signal}
 use Rattle.design_model.specs.Mentions.{blocking_target}
 use Rattle.settling.proofs.Words.{all_same, all_thing, any_same, run_leaves, unwritten}
 use Rattle.settling.specs.process_targets.Laws.{SettledLaw, WritesSignals}
-use Rattle.settling.specs.replay_model.Start.{Starting, after_first, first_kept, first_store, run_all_first, run_first, started}
-use Rattle.settling.specs.replay_model.Step.{Closing, Working, all_run, clocked_run, is_dumped, is_loose, is_touched, run_all_settling, run_settling, settle_start, surely_differ, surely_same, updated}
+use Rattle.settling.specs.replay_model.Start.{Starting, after_first, first_kept, first_store, run_all_first, run_first, runs_first, started}
+use Rattle.settling.specs.replay_model.Step.{Closing, Replay, Working, all_run, clocked_run, is_dumped, is_loose, is_touched, run_all_settling, run_settling, settle_start, settled_kept, surely_differ, surely_same, updated}
 use Rattle.settling.specs.replay_model.Tables.{AreTables, Tables}
 use Rattle.settling.specs.step_values.Starts.{left_by_clocked}
 use Rattle.settling.specs.Wakes.{HasWordChanges}
@@ -80,13 +80,13 @@ words_left st c settled tabled is =
 
 -- ---- the first step
 
-module _ (d : Design) (bound : ℕ → Bool) (run : Runs) (tables : Tables) (new : CellValues Bit) (c : Cell) (settled : SettledLaw d) (tabled : AreTables d bound tables) (is : is_memory d c.thing ≡ true) where
-  first_leaves : (ordered : Bool) (ps : List ℕ) (w : Starting) → ((p : ℕ) → In p ps → WritesSignals d p) → (run_all_first d bound run tables new ordered ps w).kept c ≡ w.kept c
+module _ (d : Design) (bound : ℕ → Bool) (run : Runs) (tables : Tables) (new : CellValues Bit) (before : Replay) (c : Cell) (settled : SettledLaw d) (tabled : AreTables d bound tables) (is : is_memory d c.thing ≡ true) where
+  first_leaves : (ordered : Bool) (ps : List ℕ) (w : Starting) → ((p : ℕ) → In p ps → WritesSignals d p) → (run_all_first d bound run tables new before ordered ps w).kept c ≡ w.kept c
   first_leaves ordered [] w writes = refl
-  first_leaves ordered (p ∷ ps) w writes = first_leaves ordered ps (run_first d bound run tables new ordered p w) (λ q i. writes q (inr i)) ∙ one (is_assign (process_at d p))
+  first_leaves ordered (p ∷ ps) w writes = first_leaves ordered ps (run_first d bound run tables new before ordered p w) (λ q i. writes q (inr i)) ∙ one (runs_first d bound run tables new before p)
     where
-      one : (t : Bool) → (if t then after_first d bound run tables new ordered p (run p (first_store d bound run tables new w.kept) quiet) w else w).kept c ≡ w.kept c
-      one true = ap (λ b. if b && not (is_dumped d bound c) then (if ordered then (run p (first_store d bound run tables new w.kept) quiet).kept c else None) else w.kept c) (unwritten d p c.thing c (writes p (inl refl)) is refl)
+      one : (t : Bool) → (if t then after_first d bound run tables new before ordered p (run p (first_store d bound run tables new before (settled_kept d p w.kept)) quiet) w else w).kept c ≡ w.kept c
+      one true = ap (λ b. if b && not (is_dumped d bound c) then (if ordered then (run p (first_store d bound run tables new before (settled_kept d p w.kept)) quiet).kept c else None) else w.kept c) (unwritten d p c.thing c (writes p (inl refl)) is refl)
       one false = refl
 
   undumped : is_dumped d bound c ≡ false
@@ -95,10 +95,10 @@ module _ (d : Design) (bound : ℕ → Bool) (run : Runs) (tables : Tables) (new
       both_false (bound c.thing) c.place (signal_at d c.thing).width (ap (λ (s : Signal). s.width) (past_end d.signals c.thing no_signal low))
 
   abbrev starting : Starting
-  starting = record { kept = first_kept d bound run tables new; made = λ x. None }
+  starting = record { kept = first_kept d bound run tables new before; made = λ x. None }
 
-  pub first_words : (started d bound run tables new).kept c ≡ None
+  pub first_words : (started d bound run tables new before).kept c ≡ None
   first_words =
-      first_leaves false tables.last (run_all_first d bound run tables new true tables.order starting) (λ p i. settled p ((tabled.others p).0 (inr i)).1)
+      first_leaves false tables.last (run_all_first d bound run tables new before true tables.order starting) (λ p i. settled p ((tabled.others p).0 (inr i)).1)
       ∙ first_leaves true tables.order starting (λ p i. settled p ((tabled.others p).0 (inl i)).1)
       ∙ ap (λ t. if t then Some (new c) else None) undumped

@@ -55,5 +55,5 @@ KeptWordsLaw = (st : Closing) (c : Cell) → IsLawfulDesign st.design → AreTab
 -- the first step leaves nothing known of a word
 abbrev pub FirstWordsLaw : Type 0
 FirstWordsLaw =
-    (d : Design) (bound : ℕ → Bool) (run : Runs) (tables : Tables) (new : CellValues Bit) (c : Cell) → IsLawfulDesign d → AreTables d bound tables → is_memory d c.thing ≡ true
-    → (started d bound run tables new).kept c ≡ None
+    (d : Design) (bound : ℕ → Bool) (run : Runs) (tables : Tables) (new : CellValues Bit) (before : Replay) (c : Cell) → IsLawfulDesign d → AreTables d bound tables → is_memory d c.thing ≡ true
+    → (started d bound run tables new before).kept c ≡ None

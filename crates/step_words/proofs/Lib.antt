@@ -7,3 +7,4 @@ pub mod Compared
 pub mod Walking
 pub mod Made
 pub mod Fitting
+pub mod Forgotten

@@ -3,7 +3,8 @@
 //!
 //! After the Clocked processes of a step [`StepWords::compare`] compares the words that they have written, and no others.
 //! [`StepWords::has_changed`] and [`StepWords::is_still`] then say of a memory whether a word has surely changed, and whether
-//! surely none has. Only [`StepWords::new`] takes memory; a step costs the words that are written in it.
+//! surely none has. After [`StepWords::forget`] nothing is known. Only [`StepWords::new`] takes memory; a step costs the words that
+//! are written in it.
 #![tactic(auto)]
 
 mod followed;

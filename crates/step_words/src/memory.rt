@@ -64,6 +64,17 @@ impl MemoryBefore {
         })
     }
 
+    /// Nothing is known of the words any more, which have this width.
+    pub(crate) fn forget(&mut self, width: u8)
+        requires at_least { 1 ≤ width }
+        requires at_most { width ≤ 128 }
+        ensures { self.new ≡ replicate (length self.old) (replicate width None) }
+    {
+        let unknown = Known::unknown(width, false, 0);
+        fill_words(self.words.as_mut_slice(), unknown);
+        self.unsure = self.words.len();
+    }
+
     /// Whether each word is wholly sure.
     pub(crate) fn is_whole(&self) -> bool
         ensures { result ≡ are_whole self.now }
@@ -93,6 +104,13 @@ impl MemoryBefore {
         self.unsure = self.unsure - unsure_count(old) + unsure_count(now);
         self.words[place] = *now;
     }
+}
+
+/// Puts one word in the place of each of these.
+fn fill_words(words: &mut [Known], value: Known)
+    ensures { words.new ≡ replicate (length words.old) value }
+{
+    words.fill(value);
 }
 
 /// 1 for a word that is not wholly sure.

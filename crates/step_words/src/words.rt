@@ -1,4 +1,4 @@
-ghost use Rattle.std.specs.Prelude.{◌≡◌, ◌+◌, ◌-◌, ◌<◌, ◌≤◌, [], ℕ, IfOk, length, List, nat_le, true};
+ghost use Rattle.std.specs.Prelude.{◌≡◌, ◌+◌, ◌-◌, ◌<◌, ◌≤◌, [], ℕ, IfOk, length, List, nat_le, None, replicate, slice_set, true};
 ghost use Rattle.std.specs.List.{All};
 ghost use Rattle.body_store.specs.Made.{HasWordWidth};
 ghost use Rattle.design_model.specs.BodyLaws.{word_indexes};
@@ -69,6 +69,28 @@ impl StepWords {
             changed,
             unsteady,
         })
+    }
+
+    /// Nothing is known of a word any more. These are the memories of the design. It takes time for the words that are followed, and
+    /// no memory.
+    pub fn forget(&mut self, memories: &[Memory])
+        requires widths { All HasWordWidth memories.now }
+        requires count { length memories.now ≡ length self.old.words }
+        ensures { (d : TheDesign) (ranges : List WordRange) → d.memories ≡ memories.now → FitsRanges d ranges self.old → FitsRanges d ranges self.new × HasWords d nothing ranges self.new }
+    {
+        for (place, memory) in memories.iter().enumerate() {
+            self.forget_memory(place, memory.width);
+        }
+    }
+
+    /// Nothing is known any more of the words of the memory at a place, which have this width.
+    fn forget_memory(&mut self, memory: usize, width: u8)
+        requires memory { memory < length self.old.words }
+        requires at_least { 1 ≤ width }
+        requires at_most { width ≤ 128 }
+        ensures { self.new ≡ record self.old { words = slice_set self.old.words memory (replicate (length (words_of self.old memory)) (replicate width None)) } }
+    {
+        self.memories[memory].forget(width);
     }
 
     /// Compares what the store knows of the words that are written with what was known of them when the step began, and keeps it

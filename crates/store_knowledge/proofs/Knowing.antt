@@ -1,5 +1,5 @@
 -- What a store knows, and what it knows once a signal has other bits.
-use Rattle.std.proofs.Common.{◌≡◌, ℕ, ◌<◌, [], length, map, sym, ap, ap₂, subst, ◌∙◌}
+use Rattle.std.proofs.Common.{◌≡◌, ℕ, ◌<◌, [], length, map, refl, sym, ap, ap₂, subst, ◌∙◌}
 use Rattle.known_state.specs.Partly.{Partly}
 use Rattle.body_store.specs.design_model.Design.{Design, body_at, signal_at, signal_cells}
 use Rattle.body_store.specs.design_model.View.{design_view}
@@ -11,7 +11,7 @@ use Rattle.open_tests.specs.Weights.{HasRoomFor}
 use Rattle.body_store.specs.declared.store.Store.{Store}
 use Rattle.body_store.specs.Bodies.{around_of, rooms_of}
 use Rattle.body_store.specs.Held.{HoldsStore}
-use Rattle.body_store.specs.Made.{unblamed}
+use Rattle.body_store.specs.Made.{itself_to_blame, nothing, unblamed}
 use Rattle.body_store.specs.Updates.{queued_writes}
 use Rattle.body_store.specs.Views.{hides}
 use Rattle.store_knowledge.specs.Knows.{Knows, with_bits}
@@ -36,3 +36,20 @@ module _ (x y : Store) (s : ℕ) (ps : KnownBits) (l : s < length x.design.now.s
 
   pub knows_set : (d : Design) (k : Kept) → Knows d k x → Knows d (with_bits s ps k) y
   knows_set d k h = subst (λ e. Knows e k x → Knows e (with_bits s ps k) y) h.design (knows_here k) h
+
+-- once all is forgotten it knows nothing
+module _ (x y : Store) (design : y.design ≡ x.design) (hidden : hides y ≡ hides x) (outside : around_of x ≡ [] → around_of y ≡ []) (rooms : rooms_of y ≡ rooms_of x) (updates : y.updates ≡ x.updates) (kept : (k : Kept) (e : Blames) → HoldsStore (design_view x.design.now) k e x → HoldsStore (design_view x.design.now) nothing (itself_to_blame e) y) where
+  nothing_here : (k : Kept) → Knows (design_view x.design.now) k x → Knows (design_view x.design.now) nothing y
+  nothing_here k h =
+      record {
+        design = ap (λ e. design_view e.now) design;
+        blank = λ c out. refl;
+        owned = kept k unblamed h.owned;
+        plain = λ t. ap (λ f. f t) hidden ∙ h.plain t;
+        queued = ap₂ (λ e u. queued_writes (design_view e.now) u.items) design updates ∙ h.queued;
+        around = outside h.around;
+        rooms = λ p b. subst (λ r. HasRoomFor (body_at (design_view x.design.now) p) [] r) (sym rooms) (h.rooms p b);
+      }
+
+  pub knows_nothing : (d : Design) (k : Kept) → Knows d k x → Knows d nothing y
+  knows_nothing d k h = subst (λ e. Knows e k x → Knows e nothing y) h.design (nothing_here k) h

@@ -1,4 +1,4 @@
-use Rattle.std.proofs.Common.{◌≡◌, ◌+◌, ◌≤◌, length, map, arith}
+use Rattle.std.proofs.Common.{◌≡◌, length, map, arith}
 use Rattle.std.proofs.lemmas.List.{length-map}
 use Rattle.design_model.specs.View.{design_view, process_view}
 use Rattle.body_store.proofs.Lawful.{premises}

@@ -1,6 +1,6 @@
 use Rattle.std.proofs.Common.{◌≡◌, ◌∙◌, ap, subst, sym, true}
 use Rattle.std.specs.List.{All}
-use Rattle.design_model.specs.Design.{is_assign, process_at}
+use Rattle.design_model.specs.Design.{IsClocked, process_at}
 use Rattle.design_model.specs.Lawful.{IsLawfulDesign}
 use Rattle.design_model.specs.View.{design_view}
 use Rattle.index_sets.specs.Rows.{row_at}
@@ -9,11 +9,8 @@ use Rattle.settled_runs.specs.process_targets.Targets.{IsOnce, names, row_has}
 use Rattle.settled_targets.specs.step_values.Vectors.{FitsSignals}
 use Rattle.settled_targets.specs.Returned.{Returns}
 use Rattle.settled_targets.specs.Saved.{AreSaved}
-use Rattle.settling.proofs.FirstRuns.{assign_settles, first_after}
+use Rattle.settling.proofs.FirstRuns.{first_after}
 use Rattle.settling.proofs.first.run_first.Goals as goal
-
-pub run_saved-requires-clause-settles : goal.run_saved-requires-clause-settles
-run_saved-requires-clause-settles g c = assign_settles (process_at (design_view c.args.rows.now.design.now) c.args.process) c.requires.assign
 
 pub put_back-requires-clause-saved : goal.put_back-requires-clause-saved
 put_back-requires-clause-saved g c =
@@ -56,7 +53,7 @@ returns-clause-fits g c =
     subst (λ e. FitsSignals e c.put_back.new.values) (c.requires.same ∙ sym (ap (λ x. design_view x.now) c.put_back.ensures.design ∙ c.run_saved.ensures.design)) (c.put_back.ensures.fits d c.requires.fits)
 
 pub returns-clause-step : goal.returns-clause-step
-returns-clause-step g c = λ d bound tables new w coded at.
+returns-clause-step g c = λ d bound tables new before w coded is at.
     let p = c.args.process in
     let m = c.args.rows.now.design.now in
     let h = at.knows in
@@ -64,7 +61,7 @@ returns-clause-step g c = λ d bound tables new w coded at.
     let qs = c.run_saved.new.scratch.saved in
     let same : design_view m ≡ d = sym c.requires.same ∙ h.design in
     let lawful : IsLawfulDesign d = subst IsLawfulDesign same c.requires.lawful in
-    let is = subst (λ e. is_assign (process_at e p) ≡ true) same c.requires.assign in
+    let settles = subst (λ e. IsClocked (process_at e p) → ⊥) same c.requires.settles in
     let targets = subst (λ e. AreTargets e p row) same (c.requires.rows.targets.each p) in
     let back = subst (λ bs. Returns c.args.rows.now.codes.now (names bs) (row_has bs) c.args.is_ordered true (λ e j. AreSaved e j bs qs) c.run_saved.new.store c.put_back.new.store c.args.values.now c.put_back.new.values) c.row.ensures c.put_back.ensures in
-    first_after d bound tables new w p c.args.is_ordered row c.args.rows.now.codes.now c.args.store.now c.run_saved.new.store c.put_back.new.store c.args.values.now c.put_back.new.values qs lawful (c.runs_lawful.ensures d lawful) is targets coded at (c.run_saved.ensures.saved d w.kept h) (c.run_saved.ensures.knows d w.kept h) back
+    first_after d bound tables new before w p c.args.is_ordered row c.args.rows.now.codes.now c.args.store.now c.run_saved.new.store c.put_back.new.store c.args.values.now c.put_back.new.values qs lawful (c.runs_lawful.ensures d lawful) settles is targets coded at (c.run_saved.ensures.saved d w.kept h) (c.run_saved.ensures.knows d w.kept h) back

@@ -8,4 +8,4 @@ pub returns-clause-kept : goal.returns-clause-kept
 returns-clause-kept c st cell lawful tabled is = words_left st cell (c.settled_law.ensures st.design lawful) tabled is
 
 pub returns-clause-first : goal.returns-clause-first
-returns-clause-first c d bound run tables new cell lawful tabled is = first_words d bound run tables new cell (c.settled_law.ensures d lawful) tabled is
+returns-clause-first c d bound run tables new before cell lawful tabled is = first_words d bound run tables new before cell (c.settled_law.ensures d lawful) tabled is

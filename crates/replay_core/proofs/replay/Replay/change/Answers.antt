@@ -36,3 +36,13 @@ returns-clause-followed c = λ dump t h.
         words = h.follows.words;
       };
     }
+
+pub returns-clause-paused : goal.returns-clause-paused
+returns-clause-paused c = λ dump u paused.
+    let p = paused.pauses in
+    record {
+      dumped = paused.dumped;
+      off = paused.off;
+      replay = paused.replay;
+      pauses = record { subject = p.subject; sets = p.sets; writers = p.writers; rest = p.rest; untold = p.untold; paused = p.paused };
+    }

@@ -5,10 +5,10 @@ use Rattle.early_sets.specs.declared.habit.Habit.{Habit}
 use Rattle.wake_laws.specs.Laws.{habit_of}
 use Rattle.replay_core.specs.Closing.{RefutesFirst, Starts}
 use Rattle.replay_core.specs.Faults.{IsContradiction, fault_at, phase_after}
-use Rattle.replay_core.specs.Fits.{FitsParts, FitsReplay, HaveValues, IsUntouched}
+use Rattle.replay_core.specs.Fits.{FitsParts, FitsReplay, HaveValues, IsForgotten}
 use Rattle.replay_core.specs.Followed.{HasFollowed}
 use Rattle.replay_core.specs.Made.{HasFollows, IsDumpFor, made_with, parts_with, subject_of}
-use Rattle.replay_core.specs.Parts.{given_of, made_of}
+use Rattle.replay_core.specs.Parts.{given_of, made_of, parts_of}
 use Rattle.code_values.specs.Values.{IsFirstMissing, lacks_value}
 use Rattle.dump_check.specs.declared.order.Difference.{Difference}
 use Rattle.replay_core.specs.declared.fault.Phase.TheVariants.{Refused}
@@ -16,7 +16,7 @@ use Rattle.replay_core.specs.declared.fault.ReplayFault.TheVariants.{Contradicti
 use Rattle.replay_core.specs.declared.replay.Replay.{Replay}
 use Rattle.replay_core.specs.declared.room.ReplayRoom.{ReplayRoom}
 use Rattle.replay_core.specs.declared.tables.ReplayTables.{ReplayTables}
-use Rattle.replay_core.proofs.Ends.{all_valued, if_err, is_new, named_fault, none_at, on_ok, step_ready}
+use Rattle.replay_core.proofs.Ends.{all_valued, if_err, is_off, named_fault, none_at, on_ok, step_ready}
 use Rattle.replay_core.proofs.Missing.{no_contradiction, not_done, not_given, of_fault, refused_ready, same_signal}
 use Rattle.replay_core.proofs.replay.Replay.start.Goals as goal
 
@@ -33,7 +33,7 @@ run_first_step-found-requires g c =
     let d = design_view x.design.now in
     let points = x.state.notes.points.now in
     let ready = c.requires.ready in
-    let new = is_new x.phase c.requires.once c.in_default.not-Refused in
+    let off = is_off x.phase c.requires.once c.in_default.not-Refused in
     let none = subst (λ cs. (s : ℕ) → s < length cs → lacks_value x.state.values.last cs s ≡ false) c.as_slice-codes.ensures.value c.in_default-first_missing.ensures.none in
     let have = all_valued x.tables.value.step.codes.items x.state.values.last (subst (λ (t : ReplayTables). (s : ℕ) → s < length t.step.codes.items → lacks_value x.state.values.last t.step.codes.items s ≡ false) c.deref.ensures none) in
     record {
@@ -43,7 +43,7 @@ run_first_step-found-requires g c =
           (subst (λ r. FitsParts d points x.tables.value r x.state) (sym c.deref_mut.ensures.value) ready.parts);
       none = subst (λ (r : ReplayRoom). r.step.list.pairs ≡ []) (sym c.deref_mut.ensures.value) ready.none;
       none_clocked = subst (λ (r : ReplayRoom). r.step.clocked.pairs ≡ []) (sym c.deref_mut.ensures.value) ready.none_clocked;
-      untouched = subst (λ r. IsUntouched d points r x.state) (sym c.deref_mut.ensures.value) (ready.untouched new);
+      forgotten = subst (λ r. IsForgotten d r x.state) (sym c.deref_mut.ensures.value) (ready.forgotten off);
       given = subst (λ (t : ReplayTables). HaveValues t.step.codes.items x.state.values.last) (sym c.deref-2.ensures) have;
     }
 
@@ -73,8 +73,11 @@ returns g c =
     let closed = none_at found (subst (HaveValues codes) (sym run.ensures.closed) have) in
     let ended : FitsReplay d state.notes.points.now tables room state (phase_after found time) =
     subst (λ ps. FitsReplay d ps tables room state (phase_after found time)) (sym noted) (step_ready d points tables room state found time ready.replayable fits run.ensures.none run.ensures.none_clocked valued closed run.ensures.named) in
-    let starts = subst (λ t. IfNone found ((h : Habit) (n : ℕ) → Starts (made_with d h points t) n x.state.values (parts_with room state))) same run.ensures.starts in
-    let refutes = subst (λ t. IfSome found (λ one. (h : Habit) (n : ℕ) → RefutesFirst (made_with d h points t) n x.state.values one)) same run.ensures.refutes in
+    let old = c.deref_mut.ensures.value in
+    let starts = subst (λ r. IfNone found ((h : Habit) (n : ℕ) → Starts (made_with d h points tables) n (parts_with r x.state) (parts_with room state))) old
+    (subst (λ t. IfNone found ((h : Habit) (n : ℕ) → Starts (made_with d h points t) n (parts_with c.deref_mut.result.now x.state) (parts_with room state))) same run.ensures.starts) in
+    let refutes = subst (λ r. IfSome found (λ one. (h : Habit) (n : ℕ) → RefutesFirst (made_with d h points tables) n (parts_with r x.state) one)) old
+    (subst (λ t. IfSome found (λ one. (h : Habit) (n : ℕ) → RefutesFirst (made_with d h points t) n (parts_with c.deref_mut.result.now x.state) one)) same run.ensures.refutes) in
     let after : made_with d x.habit state.notes.points.now tables ≡ m = ap (λ ps. made_with d x.habit ps tables) noted in
     let size : length (map process_view D.processes) ≡ length D.processes = length-map D.processes process_view in
     let steps = run.ensures.steps in
@@ -83,20 +86,20 @@ returns g c =
       made = ap made_of e ∙ after;
       values = ap given_of e ∙ run.ensures.values;
       started = on_ok c.end.result c.end.ensures.ok (λ none. ap (λ (y : Replay). y.phase) e ∙ ap (λ o. phase_after o time) none);
-      followed = on_ok c.end.result c.end.ensures.ok (λ none dump of first shown given.
-          let b = (subst (λ o. IfNone o ((h : Habit) (n : ℕ) → Starts (made_with d h points tables) n x.state.values (parts_with room state))) none starts) x.habit time dump of first shown given in
+      followed = on_ok c.end.result c.end.ensures.ok (λ none dump paused first shown given.
+          let b = (subst (λ o. IfNone o ((h : Habit) (n : ℕ) → Starts (made_with d h points tables) n (parts_of x) (parts_with room state))) none starts) x.habit time dump paused.replay paused.dumped paused.pauses first shown given in
           subst (λ (y : Replay). HasFollowed y dump time) (sym e) (record {
-            dumped = subst (λ n. IsDumpFor n dump) (sym after) of;
+            dumped = subst (λ n. IsDumpFor n dump) (sym after) paused.dumped;
             started = ap (λ o. phase_after o time) none;
             replay = b.0;
             follows = subst (λ n. HasFollows (subject_of n dump) time b.0 (parts_with room state)) (sym after) b.1;
           }));
       refused = if_err c.end.result c.end.ensures.err (λ fault is. ap (λ (y : Replay). y.phase) e ∙ ap (λ o. phase_after o time) is.1 ∙ ap Refused (sym is.2));
-      missing = λ s new is. absurd (no_missing s (subst (λ r. IfErr r (λ fault. (one : Difference) × (found ≡ Some one) × (fault ≡ fault_at one time))) is c.end.ensures.err));
-      contradiction = if_err c.end.result c.end.ensures.err (λ fault is dump new of first shown given.
-          let refuted = (subst (λ o. IfSome o (λ one. (h : Habit) (n : ℕ) → RefutesFirst (made_with d h points tables) n x.state.values one)) is.1 refutes) x.habit time dump of first shown given in
+      missing = λ s off is. absurd (no_missing s (subst (λ r. IfErr r (λ fault. (one : Difference) × (found ≡ Some one) × (fault ≡ fault_at one time))) is c.end.ensures.err));
+      contradiction = if_err c.end.result c.end.ensures.err (λ fault is dump paused first shown given.
+          let refuted = (subst (λ o. IfSome o (λ one. (h : Habit) (n : ℕ) → RefutesFirst (made_with d h points tables) n (parts_of x) one)) is.1 refutes) x.habit time dump paused.replay paused.dumped paused.pauses first shown given in
           subst (λ f. IsContradiction d (habit_of x.habit) dump time f) (sym is.2) (refl, refuted));
-      valued = λ s t dumped computed new is. have;
+      valued = λ s t dumped computed off is. have;
       again = λ fault refused. absurd (c.in_default.not-Refused fault refused);
       named = if_err c.end.result c.end.ensures.err (λ fault is. named_fault found is.0 fault time (length d.signals) run.ensures.named is.1 is.2);
       steps = omega (arith, steps, size);
@@ -122,9 +125,9 @@ returns-in-Some g c =
       started = not_done _ c.refuse.result (NoBaseline s) r;
       followed = not_done _ c.refuse.result (NoBaseline s) r;
       refused = of_fault _ c.refuse.result (NoBaseline s) r (ap (λ (y : Replay). y.phase) e);
-      missing = λ n new is. subst (λ k. IsFirstMissing last codes k) (same_signal c.refuse.result s n r is) found;
-      contradiction = of_fault _ c.refuse.result (NoBaseline s) r (λ dump new of first shown given. not_given d codes last (dump.values c.args.time) s found.missing given);
-      valued = λ n t dumped computed new is. absurd (no_contradiction c.refuse.result s (Contradiction n t dumped computed) refl r is);
+      missing = λ n off is. subst (λ k. IsFirstMissing last codes k) (same_signal c.refuse.result s n r is) found;
+      contradiction = of_fault _ c.refuse.result (NoBaseline s) r (λ dump paused first shown given. not_given d codes last (dump.values c.args.time) s found.missing given);
+      valued = λ n t dumped computed off is. absurd (no_contradiction c.refuse.result s (Contradiction n t dumped computed) refl r is);
       again = λ fault refused. absurd (c.in_default.not-Refused fault refused);
       named = of_fault _ c.refuse.result (NoBaseline s) r named;
       steps = omega arith;
