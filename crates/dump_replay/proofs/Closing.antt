@@ -1,5 +1,5 @@
 -- A step that is closed: the replay has followed each dump that goes on up to it, or no run shows what was read.
-use Rattle.std.proofs.Common.{◌≡◌, ◌↔◌, ℕ, suc, ◌<◌, ◌≤◌, ◌-◌, Bool, true, false, is_some, List, [], ◌∷◌, ◌++◌, length, Option, None, Some, Ok, Err, refl, sym, ap, subst, ◌∙◌, inl, inr, arith}
+use Rattle.std.proofs.Common.{◌≡◌, ◌↔◌, ℕ, suc, ◌<◌, ◌≤◌, ◌-◌, Bool, true, false, is_some, List, [], ◌∷◌, ◌++◌, length, Option, None, Some, Ok, Err, refl, sym, ap, subst, ◌∙◌, inl, inr, arith, append-nil}
 use Rattle.std.specs.Prelude.{IfErr, IsErrAnd, IsFalse, OnOk, Result}
 use Rattle.std.proofs.lemmas.Bool.{false≢true}
 use Rattle.four_state.specs.Vector.{Vector}
@@ -9,7 +9,7 @@ use Rattle.design_model.proofs.FiniteRounds.{last_rounds_law}
 use Rattle.design_model.specs.Design.{Design as Tree}
 use Rattle.design_model.specs.MayMove.{AreLastRounds}
 use Rattle.design_model.specs.RoundLaws.{read_by}
-use Rattle.design_model.specs.Shows.{BoundDump, IsFirst, IsShown}
+use Rattle.design_model.specs.Shows.{BoundDump, IsFirst, IsListed, IsShown, IsWindow, NoneShown}
 use Rattle.four_state.specs.declared.bit.Bit.{Bit}
 use Rattle.design_model.specs.declared.design.Design.{Design}
 use Rattle.design_model.specs.View.{design_view}
@@ -25,38 +25,34 @@ use Rattle.replay_core.specs.Faults.{IsContradiction, IsRefuted}
 use Rattle.replay_core.specs.Fits.{HaveValues, signal_of}
 use Rattle.replay_core.specs.Followed.{AreGivenAt, AreHidden, IsNextStep}
 use Rattle.replay_core.specs.Made.{IsDumpFor, Made}
-use Rattle.replay_core.specs.Parts.{IsNew, IsReady, IsStarted, given_of, made_of}
+use Rattle.replay_core.specs.Parts.{HasRefused, IsPausedPhase, IsReady, IsStarted, given_of, made_of}
 use Rattle.replay_core.specs.declared.fault.Phase.{Phase}
-use Rattle.replay_core.specs.declared.fault.Phase.TheVariants.{New, Started}
+use Rattle.replay_core.specs.declared.fault.Phase.TheVariants.{Paused, Refused, Started}
 use Rattle.replay_core.specs.declared.fault.ReplayFault.{ReplayFault}
 use Rattle.replay_core.specs.declared.fault.ReplayFault.TheVariants as fault
 use Rattle.replay_core.specs.declared.replay.Replay.{Replay}
 use Rattle.signal_binding.specs.Binding.{codes_of}
 use Rattle.replay_core.specs.wake_laws.Laws.{habit_of}
-use Rattle.shown_dumps.specs.Laws.{dump_with}
-use Rattle.shown_dumps.specs.Ongoing.{AreGiven}
+use Rattle.shown_dumps.specs.Laws.{IsFirstTime, dump_with}
+use Rattle.shown_dumps.specs.Ongoing.{AreGiven, HoldsPaused}
 use Rattle.shown_dumps.specs.Rounds.{ByLastRounds}
-use Rattle.shown_dumps.specs.Said.{EndsIn, times_in}
-use Rattle.shown_dumps.specs.Shown.{code_at}
-use Rattle.shown_dumps.proofs.Times.{first_time, next_time, rest_times}
-use Rattle.shown_dumps.proofs.Values.{rises_front}
+use Rattle.shown_dumps.specs.Said.{EndsIn, ended_at, open_stretch, times_in}
+use Rattle.shown_dumps.specs.Shown.{code_at, dump_of}
+use Rattle.vcd_reader.specs.Dump.{stretches_of}
+use Rattle.shown_dumps.proofs.Gap.{first_time, next_time, rest_time}
 use Rattle.dump_replay.specs.Faults.{IsContradicted, IsReplayFault}
-use Rattle.replay_core.specs.Followed.{HasFollowed as HasFollowedDump}
-use Rattle.dump_replay.specs.Followed.{Follows, HasFollowed, IsReplayOf}
+use Rattle.replay_core.specs.Followed.{HasFollowed as HasFollowedDump, HasPaused as HasPausedDump}
+use Rattle.dump_replay.specs.Followed.{Follows, HasFollowed, IsReplayOf, Pauses}
 use Rattle.dump_replay.specs.declared.replay.DumpReplay.{DumpReplay}
 use Rattle.dump_replay.proofs.Facts.{given_at, no_baseline, of_dump}
-use Rattle.dump_replay.proofs.More.{last_cases, last_front}
+use Rattle.dump_replay.proofs.More.{last_cases, later_next, no_times}
 
--- no step is closed yet, or the first one is
-new_or_started : (p : Phase) → p ≡ New → p ≡ Started → ⊥
-new_or_started p new started = let no_phase : New ≡ Started = sym new ∙ started in cc
-
--- a time that is said next is later
-later_next : (entries more : List Entry) (last next : ℕ) → Rises None (entries ++ Time next ∷ more) → last_time None entries ≡ Some last → last < next
-later_next entries more last next rises is_last = (subst (λ o. Rises o (Time next ∷ more)) is_last (rises_front None entries (Time next ∷ more) rises).1).0
+-- no step of the stretch is closed, or its first one is
+new_or_started : (p : Phase) → p ≡ Paused → p ≡ Started → ⊥
+new_or_started p new started = let no_phase : Paused ≡ Started = sym new ∙ started in cc
 
 module _ (x : DumpReplay) (habit : Habit) (design : Design) (points : Points) (vars : List Var) (instance : List ℕ) (entries more : List Entry) (last next : ℕ)
-    (are : AreEntries vars entries) (rises : Rises None (entries ++ Time next ∷ more)) (is_last : last_time None entries ≡ Some last) (f : HasFollowed x habit design points vars instance entries)
+    (are : AreEntries vars entries) (rises : Rises None (entries ++ Time next ∷ more)) (is_last : last_time None (open_stretch entries) ≡ Some last) (f : HasFollowed x habit design points vars instance entries)
     (rounds : ℕ → ℕ) (by_last : AreLastRounds (made_of x.replay).design (read_by (dump_with (codes_of design vars instance) entries next more) rounds)) where
   abbrev codes : List (Option ℕ)
   codes = codes_of design vars instance
@@ -64,71 +60,70 @@ module _ (x : DumpReplay) (habit : Habit) (design : Design) (points : Points) (v
   abbrev the_dump : BoundDump
   the_dump = read_by (dump_with codes entries next more) rounds
 
-  -- it is a dump that the replay can follow
-  pub dump_for : IsDumpFor (made_of x.replay) the_dump
-  dump_for = record {
-    fits =
-        let fits = of_dump design vars instance entries more next rises (made_of x.replay).design f.of.design_is in
-        record { rising = fits.rising; signals = fits.signals; stays = fits.stays };
-    bound = λ s. ap (λ cs. is_some (code_at cs s)) (sym f.of.codes);
-    rounds = by_last;
-  }
-
   -- with the values that were given last at the last time
   pub given_there : HaveValues (made_of x.replay).codes (given_of x.replay) → AreGivenAt x.replay the_dump last
   given_there have =
       given_at design vars instance entries more next rises (made_of x.replay).design (made_of x.replay).codes (given_of x.replay) last f.of.design_is f.of.codes (later_next entries more last next rises is_last) are is_last f.taken.given have
 
   -- where no step is closed, it is the first time
-  pub only_time : IsNew x.replay → times_in entries ≡ last ∷ []
+  pub only_time : IsPausedPhase x.replay → times_in (open_stretch entries) ≡ last ∷ []
   only_time new =
       elim (last_cases entries last is_last) [
         | inl one ↦ one
         | inr (before, ends) ↦ absurd (new_or_started x.replay.phase new (f.taken.follows before last ends (Time next ∷ more) rises rounds by_last).started)
       ]
 
-  pub is_first : IsNew x.replay → IsFirst the_dump last × IsShown the_dump last
-  is_first new = first_time codes entries more next rises last (only_time new)
+  pub is_first : IsPausedPhase x.replay → IsFirstTime the_dump (ended_at entries) last
+  is_first new =
+      let first = first_time codes entries more last next rises (only_time new) in
+      record { is_first = first.is_first; shown = first.shown; later = first.later; none = first.none }
+
+  -- up to which the replay has waited
+  pub waits_there : IsPausedPhase x.replay → HasPausedDump x.replay the_dump last
+  waits_there new =
+      let first = first_time codes entries more last next rises (only_time new) in
+      let waited = f.taken.waits (omega (arith, ap length (only_time new))) in
+      waited.holds (Time next ∷ more) last rises (record { later = first.later; none = first.none }) rounds by_last
 
   -- else there is a time before it, and the replay has followed the dump up to the moment before it
-  pub earlier_time : (IsNew x.replay → ⊥) → (before : ℕ) × EndsIn (times_in entries) before last
+  pub earlier_time : (IsPausedPhase x.replay → ⊥) → (before : ℕ) × EndsIn (times_in (open_stretch entries)) before last
   earlier_time begun =
       elim (last_cases entries last is_last) [
-        | inl one ↦ absurd (begun (f.taken.new (omega (arith, ap length one))))
+        | inl one ↦ absurd (begun (f.taken.waits (omega (arith, ap length one))).is_new)
         | inr ends ↦ ends
       ]
 
-  pub followed_before : (begun : IsNew x.replay → ⊥) → HasFollowedDump x.replay the_dump (last - 1)
+  pub followed_before : (begun : IsPausedPhase x.replay → ⊥) → HasFollowedDump x.replay the_dump (last - 1)
   followed_before begun = f.taken.follows (earlier_time begun).0 last (earlier_time begun).1 (Time next ∷ more) rises rounds by_last
 
-  pub next_step : (begun : IsNew x.replay → ⊥) → IsNextStep the_dump (last - 1) last
+  pub next_step : (begun : IsPausedPhase x.replay → ⊥) → IsNextStep the_dump (last - 1) last
   next_step begun =
-      let n = next_time codes entries more next rises (earlier_time begun).0 last (earlier_time begun).1 in
+      let n = next_time codes entries more (earlier_time begun).0 last next rises (earlier_time begun).1 in
       record { next = omega (arith, n.rises); kind = (listed_law the_dump last).1 n.listed; window = n.in_window }
 
   -- then each bound signal has a value
-  pub have_values : (IsNew x.replay → ⊥) → HaveValues (made_of x.replay).codes (given_of x.replay)
+  pub have_values : (IsPausedPhase x.replay → ⊥) → HaveValues (made_of x.replay).codes (given_of x.replay)
   have_values begun = f.of.ready.begun (followed_before begun).started
 
 -- ---- the answers of the two calls
 
 module _ (x : DumpReplay) (y : Replay) (time : ℕ) where
   -- the first step was closed
-  pub first_closed : IsNew x.replay → IsReady y → IsStarted y → made_of y ≡ made_of x.replay → given_of y ≡ given_of x.replay
-      → ((dump : BoundDump) → IsDumpFor (made_of x.replay) dump → IsFirst dump time → IsShown dump time → AreGivenAt x.replay dump time → HasFollowedDump y dump time)
-      → (habit : Habit) (design : Design) (points : Points) (vars : List Var) (instance : List ℕ) (entries more : List Entry) (next : ℕ) → AreEntries vars entries → Rises None (entries ++ Time next ∷ more) → last_time None entries ≡ Some time
+  pub first_closed : IsPausedPhase x.replay → IsReady y → IsStarted y → made_of y ≡ made_of x.replay → given_of y ≡ given_of x.replay
+      → ((dump : BoundDump) → HasPausedDump x.replay dump time → IsFirst dump time → IsShown dump time → AreGivenAt x.replay dump time → HasFollowedDump y dump time)
+      → (habit : Habit) (design : Design) (points : Points) (vars : List Var) (instance : List ℕ) (entries more : List Entry) (next : ℕ) → AreEntries vars entries → Rises None (entries ++ Time next ∷ more) → last_time None (open_stretch entries) ≡ Some time
       → HasFollowed x habit design points vars instance entries → Follows y (dump_with (codes_of design vars instance) entries next more) time
   first_closed new ready started made given closed habit design points vars instance entries more next are rises is_last f rounds by_last_y =
       let by_last = subst (λ m. AreLastRounds m.design (read_by (dump_with (codes_of design vars instance) entries next more) rounds)) made by_last_y in
       let own : HaveValues (made_of y).codes (given_of y) = ready.begun started in
       let have : HaveValues (made_of x.replay).codes (given_of x.replay) = subst (λ m. HaveValues m.codes (given_of x.replay)) made (subst (λ g. HaveValues (made_of y).codes g) given own) in
       let first = is_first x habit design points vars instance entries more time next are rises is_last f rounds by_last new in
-      closed (read_by (dump_with (codes_of design vars instance) entries next more) rounds) (dump_for x habit design points vars instance entries more time next are rises is_last f rounds by_last) first.0 first.1 (given_there x habit design points vars instance entries more time next are rises is_last f rounds by_last have)
+      closed (read_by (dump_with (codes_of design vars instance) entries next more) rounds) (waits_there x habit design points vars instance entries more time next are rises is_last f rounds by_last new) first.is_first first.shown (given_there x habit design points vars instance entries more time next are rises is_last f rounds by_last have)
 
   -- a later step was closed
-  pub later_closed : (IsNew x.replay → ⊥) → made_of y ≡ made_of x.replay
+  pub later_closed : (IsPausedPhase x.replay → ⊥) → made_of y ≡ made_of x.replay
       → ((dump : BoundDump) (t : ℕ) → HasFollowedDump x.replay dump t → IsNextStep dump t time → AreGivenAt x.replay dump time → HasFollowedDump y dump time)
-      → (habit : Habit) (design : Design) (points : Points) (vars : List Var) (instance : List ℕ) (entries more : List Entry) (next : ℕ) → AreEntries vars entries → Rises None (entries ++ Time next ∷ more) → last_time None entries ≡ Some time
+      → (habit : Habit) (design : Design) (points : Points) (vars : List Var) (instance : List ℕ) (entries more : List Entry) (next : ℕ) → AreEntries vars entries → Rises None (entries ++ Time next ∷ more) → last_time None (open_stretch entries) ≡ Some time
       → HasFollowed x habit design points vars instance entries → Follows y (dump_with (codes_of design vars instance) entries next more) time
   later_closed begun made closed habit design points vars instance entries more next are rises is_last f rounds by_last_y =
       let by_last = subst (λ m. AreLastRounds m.design (read_by (dump_with (codes_of design vars instance) entries next more) rounds)) made by_last_y in
@@ -149,7 +144,7 @@ some_rounds : (x : DumpReplay) (dump : BoundDump) → IsReady x.replay → (roun
 some_rounds x dump ready = last_rounds_law (made_of x.replay).design ready.replayable.lawful dump
 
 -- what a contradiction of the dump of the entries says of them
-pub refuted_entries : (x : DumpReplay) (habit : Habit) (design : Design) (points : Points) (vars : List Var) (instance : List ℕ) (entries : List Entry) (last time next s end : ℕ) (dumped : Vector) (computed : Partly) (rounds : ℕ → ℕ) → last_time None entries ≡ Some last
+pub refuted_entries : (x : DumpReplay) (habit : Habit) (design : Design) (points : Points) (vars : List Var) (instance : List ℕ) (entries : List Entry) (last time next s end : ℕ) (dumped : Vector) (computed : Partly) (rounds : ℕ → ℕ) → last_time None (open_stretch entries) ≡ Some last
     → last ≤ time → time < next
     → IsReplayOf x habit design points vars instance → s < length (made_of x.replay).design.signals → (end ≡ time) × IsRefuted (made_of x.replay).design (habit_of (made_of x.replay).habit) (read_by (dump_with (codes_of design vars instance) entries next []) rounds) time s dumped computed.bits
     → IsContradicted habit design vars instance (entries ++ Time next ∷ []) s end dumped computed.bits
@@ -164,17 +159,17 @@ refuted_entries x habit design points vars instance entries last time next s end
 
 module _ {T : Type 0} (x : DumpReplay) (result : Result T ReplayFault) (time : ℕ) where
   -- the first step was refused
-  pub first_refused : IsNew x.replay → ((s : ℕ) → IsNew x.replay → result ≡ Err (fault.NoBaseline s) → IsFirstMissing (given_of x.replay) (made_of x.replay).codes s)
-      → ((s t : ℕ) (dumped : Vector) (computed : Partly) → IsNew x.replay → result ≡ Err (fault.Contradiction s t dumped computed) → HaveValues (made_of x.replay).codes (given_of x.replay))
-      → IfErr result (λ f. (dump : BoundDump) → IsNew x.replay → IsDumpFor (made_of x.replay) dump → IsFirst dump time → IsShown dump time → AreGivenAt x.replay dump time → IsContradiction (made_of x.replay).design (habit_of (made_of x.replay).habit) dump time f)
+  pub first_refused : IsPausedPhase x.replay → ((s : ℕ) → IsPausedPhase x.replay → result ≡ Err (fault.NoBaseline s) → IsFirstMissing (given_of x.replay) (made_of x.replay).codes s)
+      → ((s t : ℕ) (dumped : Vector) (computed : Partly) → IsPausedPhase x.replay → result ≡ Err (fault.Contradiction s t dumped computed) → HaveValues (made_of x.replay).codes (given_of x.replay))
+      → IfErr result (λ f. (dump : BoundDump) → HasPausedDump x.replay dump time → IsFirst dump time → IsShown dump time → AreGivenAt x.replay dump time → IsContradiction (made_of x.replay).design (habit_of (made_of x.replay).habit) dump time f)
       → IfErr result (λ f. signal_of f < length (made_of x.replay).design.signals)
-      → IfErr result (λ g. (habit : Habit) (design : Design) (points : Points) (vars : List Var) (instance : List ℕ) (entries : List Entry) (next : ℕ) → AreEntries vars entries → Rises None (entries ++ Time next ∷ []) → last_time None entries ≡ Some time
+      → IfErr result (λ g. (habit : Habit) (design : Design) (points : Points) (vars : List Var) (instance : List ℕ) (entries : List Entry) (next : ℕ) → AreEntries vars entries → Rises None (entries ++ Time next ∷ []) → last_time None (open_stretch entries) ≡ Some time
       → HasFollowed x habit design points vars instance entries → IsReplayFault habit design vars instance (entries ++ Time next ∷ []) g)
   first_refused new missing valued contradiction named = go result refl contradiction named
     where
-      go : (r : Result T ReplayFault) → result ≡ r → IfErr r (λ f. (dump : BoundDump) → IsNew x.replay → IsDumpFor (made_of x.replay) dump → IsFirst dump time → IsShown dump time → AreGivenAt x.replay dump time → IsContradiction (made_of x.replay).design (habit_of (made_of x.replay).habit) dump time f)
+      go : (r : Result T ReplayFault) → result ≡ r → IfErr r (λ f. (dump : BoundDump) → HasPausedDump x.replay dump time → IsFirst dump time → IsShown dump time → AreGivenAt x.replay dump time → IsContradiction (made_of x.replay).design (habit_of (made_of x.replay).habit) dump time f)
           → IfErr r (λ f. signal_of f < length (made_of x.replay).design.signals)
-          → IfErr r (λ g. (habit : Habit) (design : Design) (points : Points) (vars : List Var) (instance : List ℕ) (entries : List Entry) (next : ℕ) → AreEntries vars entries → Rises None (entries ++ Time next ∷ []) → last_time None entries ≡ Some time
+          → IfErr r (λ g. (habit : Habit) (design : Design) (points : Points) (vars : List Var) (instance : List ℕ) (entries : List Entry) (next : ℕ) → AreEntries vars entries → Rises None (entries ++ Time next ∷ []) → last_time None (open_stretch entries) ≡ Some time
           → HasFollowed x habit design points vars instance entries → IsReplayFault habit design vars instance (entries ++ Time next ∷ []) g)
       go (Ok value) is c n = tt
       go (Err (fault.NoBaseline s)) is c n = λ habit design points vars instance entries next are rises is_last f.
@@ -184,20 +179,20 @@ module _ {T : Type 0} (x : DumpReplay) (result : Result T ReplayFault) (time : �
           let some = some_rounds x (dump_with (codes_of design vars instance) entries next []) f.of.ready in let rounds = some.0 in let by_last = some.1 in
           let first = is_first x habit design points vars instance entries [] time next are rises is_last f rounds by_last new in
           refuted_entries x habit design points vars instance entries time time next s end dumped computed rounds is_last (omega arith) (later_next entries [] time next rises is_last) f.of n
-          (c (read_by (dump_with (codes_of design vars instance) entries next []) rounds) new (dump_for x habit design points vars instance entries [] time next are rises is_last f rounds by_last) first.0 first.1
+          (c (read_by (dump_with (codes_of design vars instance) entries next []) rounds) (waits_there x habit design points vars instance entries [] time next are rises is_last f rounds by_last new) first.is_first first.shown
           (given_there x habit design points vars instance entries [] time next are rises is_last f rounds by_last (valued s end dumped computed new is)))
 
   -- a later step was refused
-  pub later_refused : (IsNew x.replay → ⊥)
+  pub later_refused : (IsPausedPhase x.replay → ⊥)
       → IfErr result (λ f. (dump : BoundDump) (t : ℕ) → HasFollowedDump x.replay dump t → IsNextStep dump t time → AreGivenAt x.replay dump time → IsContradiction (made_of x.replay).design (habit_of (made_of x.replay).habit) dump time f)
       → IfErr result (λ f. signal_of f < length (made_of x.replay).design.signals)
-      → IfErr result (λ g. (habit : Habit) (design : Design) (points : Points) (vars : List Var) (instance : List ℕ) (entries : List Entry) (next : ℕ) → AreEntries vars entries → Rises None (entries ++ Time next ∷ []) → last_time None entries ≡ Some time
+      → IfErr result (λ g. (habit : Habit) (design : Design) (points : Points) (vars : List Var) (instance : List ℕ) (entries : List Entry) (next : ℕ) → AreEntries vars entries → Rises None (entries ++ Time next ∷ []) → last_time None (open_stretch entries) ≡ Some time
       → HasFollowed x habit design points vars instance entries → IsReplayFault habit design vars instance (entries ++ Time next ∷ []) g)
   later_refused begun contradiction named = go result contradiction named
     where
       go : (r : Result T ReplayFault) → IfErr r (λ f. (dump : BoundDump) (t : ℕ) → HasFollowedDump x.replay dump t → IsNextStep dump t time → AreGivenAt x.replay dump time → IsContradiction (made_of x.replay).design (habit_of (made_of x.replay).habit) dump time f)
           → IfErr r (λ f. signal_of f < length (made_of x.replay).design.signals)
-          → IfErr r (λ g. (habit : Habit) (design : Design) (points : Points) (vars : List Var) (instance : List ℕ) (entries : List Entry) (next : ℕ) → AreEntries vars entries → Rises None (entries ++ Time next ∷ []) → last_time None entries ≡ Some time
+          → IfErr r (λ g. (habit : Habit) (design : Design) (points : Points) (vars : List Var) (instance : List ℕ) (entries : List Entry) (next : ℕ) → AreEntries vars entries → Rises None (entries ++ Time next ∷ []) → last_time None (open_stretch entries) ≡ Some time
           → HasFollowed x habit design points vars instance entries → IsReplayFault habit design vars instance (entries ++ Time next ∷ []) g)
       go (Ok value) c n = tt
       go (Err (fault.NoBaseline s)) c n = λ habit design points vars instance entries next are rises is_last f.
@@ -224,16 +219,15 @@ err_map (Err g) A B step a = step g a
 
 module _ (x z : DumpReplay) (last next : ℕ) (made : made_of z.replay ≡ made_of x.replay) (given : given_of z.replay ≡ given_of x.replay) (started : IsStarted z.replay) (ready : IsReady z.replay)
     (habit : Habit) (design : Design) (points : Points) (vars : List Var) (instance : List ℕ) (entries more : List Entry) (are : AreEntries vars entries) (rises : Rises None (entries ++ Time next ∷ more))
-    (is_last : last_time None entries ≡ Some last) (f : HasFollowed x habit design points vars instance entries) where
+    (is_last : last_time None (open_stretch entries) ≡ Some last) (f : HasFollowed x habit design points vars instance entries) where
   abbrev said : BoundDump
   said = dump_with (codes_of design vars instance) entries next more
 
   -- none of them is listed, and each is of the window
   pub between_times : AreHidden said last next
   between_times =
-      let front = last_front entries last is_last in
-      let n = rest_times (codes_of design vars instance) entries more next rises front.0 last front.1 in
-      record { later = later_next entries more last next rises is_last; window = n.0; unlisted = n.1 }
+      let n : (t : ℕ) → last < t → t < next → IsWindow said t × (IsListed said t → ⊥) = λ t after before. rest_time (codes_of design vars instance) entries more last next t rises is_last after before in
+      record { later = later_next entries more last next rises is_last; window = λ t after before. (n t after before).0; unlisted = λ t after before. (n t after before).1 }
 
   -- and the values are those of the last one
   pub given_after : AreGivenAt z.replay said last
@@ -262,13 +256,13 @@ module _ {T : Type 0} (x y : Replay) (last next : ℕ) (made : made_of y ≡ mad
 pub rest_starts : {T : Type 0} (r : Result T ReplayFault) (x y : Replay) → IsStarted x → OnOk r (IsStarted x → IsStarted y) → OnOk r (IsStarted y)
 rest_starts r x y started is = ok_map r _ _ (λ from. from started) is
 
-pub begun_not_new : (x : Replay) → IsStarted x → IsNew x → ⊥
+pub begun_not_new : (x : Replay) → IsStarted x → IsPausedPhase x → ⊥
 begun_not_new x started new = new_or_started x.phase new started
 
 -- what follows after those times
 pub rest_closed : (x z : DumpReplay) (y : Replay) (last next : ℕ) → made_of z.replay ≡ made_of x.replay → given_of z.replay ≡ given_of x.replay → IsStarted z.replay → IsReady z.replay
     → ((dump : BoundDump) → Follows z.replay dump last → AreHidden dump last next → AreGivenAt z.replay dump last → Follows y dump (next - 1))
-    → (habit : Habit) (design : Design) (points : Points) (vars : List Var) (instance : List ℕ) (entries more : List Entry) → AreEntries vars entries → Rises None (entries ++ Time next ∷ more) → last_time None entries ≡ Some last
+    → (habit : Habit) (design : Design) (points : Points) (vars : List Var) (instance : List ℕ) (entries more : List Entry) → AreEntries vars entries → Rises None (entries ++ Time next ∷ more) → last_time None (open_stretch entries) ≡ Some last
     → HasFollowed x habit design points vars instance entries → Follows z.replay (dump_with (codes_of design vars instance) entries next more) last
     → Follows y (dump_with (codes_of design vars instance) entries next more) (next - 1)
 rest_closed x z y last next made given started ready closed habit design points vars instance entries more are rises is_last f follows =
@@ -281,7 +275,7 @@ pub rest_fault : (x z : DumpReplay) (last next : ℕ) → made_of z.replay ≡ m
     → ((dump : BoundDump) → Follows z.replay dump last → AreHidden dump last next → AreGivenAt z.replay dump last
     → ByLastRounds (made_of z.replay).design dump (λ b. (suc last < next) × IsContradiction (made_of z.replay).design (habit_of (made_of z.replay).habit) b (suc last) g))
     → signal_of g < length (made_of z.replay).design.signals
-    → (habit : Habit) (design : Design) (points : Points) (vars : List Var) (instance : List ℕ) (entries : List Entry) → AreEntries vars entries → Rises None (entries ++ Time next ∷ []) → last_time None entries ≡ Some last
+    → (habit : Habit) (design : Design) (points : Points) (vars : List Var) (instance : List ℕ) (entries : List Entry) → AreEntries vars entries → Rises None (entries ++ Time next ∷ []) → last_time None (open_stretch entries) ≡ Some last
     → HasFollowed x habit design points vars instance entries → Follows z.replay (dump_with (codes_of design vars instance) entries next []) last
     → IsReplayFault habit design vars instance (entries ++ Time next ∷ []) g
 rest_fault x z last next made given started ready (fault.NoBaseline s) refutes named habit design points vars instance entries are rises is_last f follows =
@@ -306,15 +300,58 @@ pub ok_both : {T : Type 0} (r : Result T ReplayFault) (A B C : Type 0) → (A �
 ok_both (Ok value) A B C step a b = step a b
 ok_both (Err fault) A B C step a b = tt
 
-pub has_begun : (x : Replay) (started : Bool) → IsFalse started ↔ IsNew x → started ≡ true → IsNew x → ⊥
+pub has_begun : (x : Replay) (started : Bool) → IsFalse started ↔ IsPausedPhase x → started ≡ true → IsPausedPhase x → ⊥
 has_begun x started is true_is new = false≢true (sym (is.1 new) ∙ true_is)
 
-pub is_new : (x : Replay) (started : Bool) → IsFalse started ↔ IsNew x → started ≡ false → IsNew x
+pub is_new : (x : Replay) (started : Bool) → IsFalse started ↔ IsPausedPhase x → started ≡ false → IsPausedPhase x
 is_new x started is false_is = is.0 false_is
 
-pub not_started : (x : Replay) (started : Bool) → IsFalse started ↔ IsNew x → started ≡ false → IsStarted x → ⊥
+pub not_started : (x : Replay) (started : Bool) → IsFalse started ↔ IsPausedPhase x → started ≡ false → IsStarted x → ⊥
 not_started x started is false_is begun = new_or_started x.phase (is.0 false_is) begun
 
 pub fault_is : {T : Type 0} (r : Result T ReplayFault) (A B : ReplayFault → Type 0) → ((fault : ReplayFault) → A fault → B fault) → IsErrAnd r A → IfErr r B
 fault_is (Ok value) A B step a = tt
 fault_is (Err fault) A B step a = step fault a
+
+-- ---- where the dump goes off
+
+-- a replay that has followed entries so was not refused
+pub not_refused : (x : DumpReplay) (habit : Habit) (design : Design) (points : Points) (vars : List Var) (instance : List ℕ) (entries : List Entry) → Rises None entries → HasFollowed x habit design points vars instance entries → (fault : ReplayFault) → HasRefused x.replay fault → ⊥
+not_refused x habit design points vars instance entries rises f fault refused = by_last (last_time None (open_stretch entries)) refl
+  where
+    paused : IsPausedPhase x.replay → ⊥
+    paused is = let no_phase : Paused ≡ Refused fault = sym is ∙ refused in cc
+
+    started : IsStarted x.replay → ⊥
+    started is = let no_phase : Started ≡ Refused fault = sym is ∙ refused in cc
+
+    two : (before last : ℕ) → EndsIn (times_in (open_stretch entries)) before last → ⊥
+    two before last ends =
+        let dump = dump_of (codes_of design vars instance) (stretches_of (entries ++ [])) in
+        let some = some_rounds x dump f.of.ready in
+        started (f.taken.follows before last ends [] (subst (Rises None) (sym (append-nil entries)) rises) some.0 some.1).started
+
+    by_last : (o : Option ℕ) → last_time None (open_stretch entries) ≡ o → ⊥
+    by_last None e = paused (f.taken.waits (omega (arith, ap length (no_times entries e)))).is_new
+    by_last (Some last) e = elim (last_cases entries last e) [ inl one ↦ paused (f.taken.waits (omega (arith, ap length one))).is_new | inr (before, ends) ↦ two before last ends ]
+
+-- what the replay has followed before it pauses
+module _ (x y : Replay) (made : made_of y ≡ made_of x) where
+  pub pause_follows : ((dump : BoundDump) (t u : ℕ) → HasFollowedDump x dump t → t < u → NoneShown dump t u → HasPausedDump y dump u) → (dump : BoundDump) (t u : ℕ) → Follows x dump t → t < u → NoneShown dump t u → Pauses y dump u
+  pause_follows each dump t u follows less none rounds by_last =
+      each (read_by dump rounds) t u (follows rounds (subst (λ (m : Made). AreLastRounds m.design (read_by dump rounds)) made by_last)) less none
+
+  pub pause_stays : ((dump : BoundDump) (u v : ℕ) → HasPausedDump x dump u → u ≤ v → ((w : ℕ) → u ≤ w → w < v → IsShown dump w → ⊥) → HasPausedDump y dump v) → (dump : BoundDump) (u : ℕ) → Pauses x dump u → Pauses y dump u
+  pause_stays each dump u pauses rounds by_last =
+      each (read_by dump rounds) u u (pauses rounds (subst (λ (m : Made). AreLastRounds m.design (read_by dump rounds)) made by_last)) (omega arith) (λ w from before. absurd (omega (arith, from, before)))
+
+-- ---- a new replay
+
+-- it has waited for each dump from its beginning on
+pub new_holds : (x : Replay) (design : Design) (vars : List Var) (instance : List ℕ) → (made_of x).design ≡ design_view design → (made_of x).codes ≡ codes_of design vars instance
+    → ((dump : BoundDump) (u : ℕ) → IsDumpFor (made_of x) dump → ((v : ℕ) → v < u → IsShown dump v → ⊥) → HasPausedDump x dump u) → HoldsPaused (Pauses x) (codes_of design vars instance) []
+new_holds x design vars instance is same paused more t rises until rounds by_last =
+    let fits = of_dump design vars instance more rises (made_of x).design is in
+    let dump_for : IsDumpFor (made_of x) (read_by (dump_of (codes_of design vars instance) (stretches_of more)) rounds) =
+    record { fits = record { rising = fits.rising; signals = fits.signals; stays = fits.stays }; bound = λ s. ap (λ cs. is_some (code_at cs s)) (sym same); rounds = by_last } in
+    paused (read_by (dump_of (codes_of design vars instance) (stretches_of more)) rounds) t dump_for (λ v before shown. until.none v (omega arith) before shown)

@@ -2,7 +2,6 @@ pub mod More
 pub mod Taken
 pub mod Facts
 pub mod Windows
-pub mod Ends
 pub mod Following
 pub mod Closing
 pub mod Finishing

@@ -5,7 +5,7 @@ use Rattle.design_model.specs.declared.design.Design.{Design}
 use Rattle.event_machine.specs.Habit.{Habit}
 use Rattle.four_state.specs.Vector.{Vector}
 use Rattle.four_state.specs.declared.bit.Bit.{Bit}
-use Rattle.vcd_reader.specs.Dump.{steps_of}
+use Rattle.vcd_reader.specs.Dump.{stretches_of}
 use Rattle.vcd_reader.specs.Times.{last_time}
 use Rattle.vcd_reader.specs.declared.entry.Entry.{Entry}
 use Rattle.vcd_reader.specs.declared.entry.Entry.TheVariants.{Time}
@@ -15,15 +15,16 @@ use Rattle.replay_core.specs.declared.fault.ReplayFault.{ReplayFault}
 use Rattle.replay_core.specs.declared.fault.ReplayFault.TheVariants.{Contradiction, NoBaseline}
 use Rattle.signal_binding.specs.Binding.{HasInstance, codes_of}
 use Rattle.shown_dumps.specs.Bound.{HasNoBaseline}
+use Rattle.shown_dumps.specs.Said.{open_stretch}
 use Rattle.shown_dumps.specs.Shown.{dump_of}
 
--- the entries end with a time, and this is the one before it, or one between the two
+-- the entries end with a time, and this is the one before it in the same stretch, or one between the two
 pub record EndsStep (entries : List Entry) (time : ℕ) : Type 0 where
   pub front : List Entry
   pub next : ℕ
   pub are : entries ≡ front ++ Time next ∷ []
   pub last : ℕ
-  pub is_last : last_time None front ≡ Some last
+  pub is_last : last_time None (open_stretch front) ≡ Some last
   pub from : last ≤ time
   pub before : time < next
 
@@ -32,7 +33,7 @@ pub record IsContradicted (habit : Habit) (design : Design) (vars : List Var) (i
   pub there : HasInstance vars instance
   pub ends : EndsStep entries time
   pub listed : s < length design.signals
-  pub refuted : IsRefuted (design_view design) habit (dump_of (codes_of design vars instance) (steps_of entries)) time s dumped computed
+  pub refuted : IsRefuted (design_view design) habit (dump_of (codes_of design vars instance) (stretches_of entries)) time s dumped computed
 
 -- the entries have the fault
 abbrev pub IsReplayFault : Habit → Design → List Var → List ℕ → List Entry → ReplayFault → Type 0

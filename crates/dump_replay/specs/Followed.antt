@@ -1,5 +1,5 @@
 -- A replay has followed each dump that goes on from what was read.
-use Rattle.std.specs.Prelude.{◌≡◌, ◌<◌, ℕ, List, length, None}
+use Rattle.std.specs.Prelude.{◌≡◌, ◌<◌, ℕ, List, length, map, None}
 use Rattle.cover_marks.specs.Marks.{AreMarksOf}
 use Rattle.cover_marks.specs.declared.marks.Marks.{Marks}
 use Rattle.cover_points.specs.declared.listing.Points.{Points}
@@ -13,8 +13,8 @@ use Rattle.four_state.specs.declared.bit.Bit.{Bit}
 use Rattle.vcd_reader.specs.Times.{last_time}
 use Rattle.vcd_reader.specs.declared.entry.Entry.{Entry}
 use Rattle.vcd_reader.specs.declared.vars.Var.{Var}
-use Rattle.replay_core.specs.Followed.{HasFollowed as HasFollowedDump}
-use Rattle.replay_core.specs.Parts.{IsNew, IsReady, given_of, made_of}
+use Rattle.replay_core.specs.Followed.{HasFollowed as HasFollowedDump, HasPaused as HasPausedDump}
+use Rattle.replay_core.specs.Parts.{IsPausedPhase, IsReady, given_of, made_of}
 use Rattle.replay_core.specs.declared.replay.Replay.{Replay}
 use Rattle.replay_core.specs.wake_laws.Laws.{habit_of}
 use Rattle.signal_binding.specs.Binding.{HasInstance, codes_of}
@@ -22,9 +22,10 @@ use Rattle.code_values.specs.Values.{value_of}
 use Rattle.score_tables.specs.Scored.{AreScored}
 use Rattle.dump_replay.specs.Taken.{HasTaken}
 use Rattle.dump_replay.specs.Windows.{first_of}
+use Rattle.score_tables.specs.Windows.{windows_of}
 use Rattle.shown_dumps.specs.Rounds.{ByLastRounds}
 use Rattle.bound_codes.specs.Codes.{AreWanted, IsCoded}
-use Rattle.shown_dumps.specs.Said.{times_in}
+use Rattle.shown_dumps.specs.Said.{ended_stretches, open_stretch, times_in}
 use Rattle.dump_replay.specs.declared.replay.DumpReplay.{DumpReplay}
 
 -- the replay is one of this design, whose inputs move by this habit, and of its points, of which the instance is the top in a dump with these variables
@@ -42,12 +43,17 @@ pub record IsReplayOf (x : DumpReplay) (habit : Habit) (design : Design) (points
 abbrev pub Follows : Replay → BoundDump → ℕ → Type 0
 Follows x dump t = ByLastRounds (made_of x).design dump (λ b. HasFollowedDump x b t)
 
--- it was given these entries, and has followed each dump that begins with them up to the last time but one
+-- it has followed all that a dump shows before a time, and closed no step of what comes then
+abbrev pub Pauses : Replay → BoundDump → ℕ → Type 0
+Pauses x dump t = ByLastRounds (made_of x).design dump (λ b. HasPausedDump x b t)
+
+-- it was given these entries, and has followed each dump that begins with them up to the last time but one of the stretch that is on
 pub record HasFollowed (x : DumpReplay) (habit : Habit) (design : Design) (points : Points) (vars : List Var) (instance : List ℕ) (entries : List Entry) : Type 0 where
   pub of : IsReplayOf x habit design points vars instance
-  pub first : x.first ≡ first_of (times_in entries)
-  pub last : x.last ≡ last_time None entries
-  pub taken : HasTaken (Follows x.replay) (IsNew x.replay) (codes_of design vars instance) (value_of (given_of x.replay)) entries
+  pub first : x.first ≡ first_of (times_in (open_stretch entries))
+  pub last : x.last ≡ last_time None (open_stretch entries)
+  pub windows : x.windows ≡ record { items = windows_of (map times_in (ended_stretches entries)); room = 1024 }
+  pub taken : HasTaken (Follows x.replay) (Pauses x.replay) (IsPausedPhase x.replay) (codes_of design vars instance) (value_of (given_of x.replay)) entries
 
 -- the marks are verdicts of the points that hold under the dump, and no value that is forced differs from the dump's
 pub record AreFinalMarks (d : Tree) (h : Habit) (dump : BoundDump) (points : Points) (marks : Marks) : Type 0 where

@@ -10,3 +10,4 @@ pub use Rattle.score_tables.specs.instance_paths as instance_paths
 pub use Rattle.score_tables.specs.table_laws as table_laws
 pub use Rattle.score_tables.specs.verdict_laws as verdict_laws
 pub use Rattle.shown_dumps.specs as shown_dumps
+pub use Rattle.value_store.specs as value_store

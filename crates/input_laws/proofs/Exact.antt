@@ -17,7 +17,7 @@ use Rattle.design_model.specs.Points.{IsHit, toggle_cell}
 use Rattle.verdict_laws.specs.table_laws.point_table.cover_points.design_machines.state_machines.Drawn.{IsPointWith}
 use Rattle.verdict_laws.specs.table_laws.point_table.cover_points.design_machines.state_machines.Machines.{no_machines}
 use Rattle.design_model.specs.Run.{Run}
-use Rattle.design_model.specs.Shows.{BindsSignals, BoundDump, IsContradicted, IsDumpOf}
+use Rattle.design_model.specs.Shows.{AreStretches, BindsSignals, BoundDump, IsContradicted, IsDumpOf}
 use Rattle.design_model.specs.declared.point.Point.{Point}
 use Rattle.design_model.specs.declared.point.Point.TheVariants.{Line as line_point, Logic as logic_point, Toggle as toggle_point, State as state_point, Arc as arc_point, Word as word_point}
 use Rattle.event_machine.specs.Habit.{Free}
@@ -36,12 +36,12 @@ no_memory : (d : Design) → d.memories ≡ [] → (m : ℕ) → is_memory d m �
 no_memory d none m = rw none (grind (arith, nat_tests))
 
 module _ (d : Design) (inputs : HasInputsAlone d) (dump : BoundDump) where
-  pub some_shown : BindsSignals d dump → (r : Run) × IsShownBy d Free dump r
-  some_shown signals = let some = run_shown d inputs dump signals in (some.0, record { is_run = some.1; shows = some.2 })
+  pub some_shown : BindsSignals d dump → AreStretches dump.stretches → (r : Run) × IsShownBy d Free dump r
+  some_shown signals order = let some = run_shown d inputs dump signals order in (some.0, record { is_run = some.1; shows = some.2 })
 
-  pub never_contradicted : BindsSignals d dump → (t : ℕ) → IsContradicted d Free dump t → ⊥
-  never_contradicted signals t refuted =
-      let some = run_shown d inputs dump signals in
+  pub never_contradicted : BindsSignals d dump → AreStretches dump.stretches → (t : ℕ) → IsContradicted d Free dump t → ⊥
+  never_contradicted signals order t refuted =
+      let some = run_shown d inputs dump signals order in
       refuted some.0 (record { is_run = some.1; shows = record { starts = some.2.starts; shows = λ u shown before. some.2.shows u shown } })
 
 module _ (d : Design) (lawful : IsLawfulDesign d) (inputs : HasInputsAlone d) (dump : BoundDump) (is : IsDumpOf d dump) where
@@ -72,7 +72,7 @@ module _ (d : Design) (lawful : IsLawfulDesign d) (inputs : HasInputsAlone d) (d
 
   pub exact_table : (db : Db) → ListsPoints d no_machines db → IsSound d Free dump no_machines db → IsReasoned d Free dump no_machines db → IsExact d dump db
   exact_table db listed sound reasoned k default within =
-      let some = some_shown d inputs dump is.signals in
+      let some = some_shown d inputs dump is.signals is.rising in
       let row : DbPoint = get_or db.points k default in
       let there = get_or-map (λ (p : DbPoint). p.address) db.points k default row.address within in
       let named = (listed row.address).0 (k, omega (arith, within, length-map db.points (λ (p : DbPoint). p.address)), there) in

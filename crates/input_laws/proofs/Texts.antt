@@ -19,16 +19,16 @@ binds_signals : (design : Design) (dump : Dump) (instance : List ℕ) → BindsS
 binds_signals design dump instance s bound = coded_signal design dump.vars instance s bound
 
 pub shown_law : ShownLaw
-shown_law design dump instance inputs = some_shown (design_view design) inputs (bound_dump design dump instance) (binds_signals design dump instance)
+shown_law design dump instance inputs order = some_shown (design_view design) inputs (bound_dump design dump instance) (binds_signals design dump instance) order
 
 pub no_contradiction_law : NoContradictionLaw
-no_contradiction_law design dump instance t inputs refuted = never_contradicted (design_view design) inputs (bound_dump design dump instance) (binds_signals design dump instance) t refuted
+no_contradiction_law design dump instance t inputs order refuted = never_contradicted (design_view design) inputs (bound_dump design dump instance) (binds_signals design dump instance) order t refuted
 
 -- the dump of a text in which the inputs are bound is one of the design
 dump_is : (design : Design) (text instance : List ℕ) (dump : Dump) → IsDump text dump → BindsInputs (design_view design) (bound_dump design dump instance) → IsDumpOf (design_view design) (bound_dump design dump instance)
 dump_is design text instance dump is inputs =
     let any : IsAnyDumpOf (design_view design) (bound_dump design dump instance) =
-    subst (λ steps. IsAnyDumpOf (design_view design) (dump_of (codes_of design dump.vars instance) steps)) (sym is.steps) (is_dump design dump.vars instance is.b.items (times_rise text is.b is.ends)) in
+    subst (λ stretches. IsAnyDumpOf (design_view design) (dump_of (codes_of design dump.vars instance) stretches)) (sym is.stretches) (is_dump design dump.vars instance is.b.items (times_rise text is.b is.ends)) in
     record { rising = any.rising; signals = any.signals; inputs = inputs; stays = any.stays }
 
 pub exact_law : ExactLaw

@@ -1,5 +1,5 @@
 -- The worked case, computed.
-use Rattle.std.proofs.Common.{◌≡◌, ℕ, zero, suc, ◌+◌, ◌<◌, true, false, refl, subst, lit≤, arith}
+use Rattle.std.proofs.Common.{◌≡◌, ℕ, zero, suc, ◌+◌, ◌<◌, true, false, List, [], ◌∷◌, refl, subst, lit≤, arith}
 use Rattle.std.proofs.lemmas.Bool.{false≢true}
 use Rattle.std.proofs.lemmas.List.Elements.{All-from_recursion}
 use Rattle.std.specs.Prelude.{codes}
@@ -36,13 +36,17 @@ worked_run = record {
   inputs = nested_inputs;
   bound = nested_bound;
   inner_name = refl;
-  run = shown_law nested nested_dump (codes "tb.dut") nested_inputs;
+  run = shown_law nested nested_dump (codes "tb.dut") nested_inputs (omega arith, (omega arith, (omega arith, tt)));
 }
+
+-- its listed times
+abbrev nested_times : List ℕ
+nested_times = 0 ∷ 5 ∷ 10 ∷ 15 ∷ []
 
 never_falls : TogglesOver nested_values (cell 1 0) false → ⊥
 never_falls over = go over.number over.inside over.before over.after
   where
-    go : (k : ℕ) → k + 2 < 4 → dumped_bit nested_values (cell 1 0) k ≡ One → dumped_bit nested_values (cell 1 0) (k + 1) ≡ Zero → ⊥
+    go : (k : ℕ) → k + 2 < 4 → dumped_bit nested_values nested_times (cell 1 0) k ≡ One → dumped_bit nested_values nested_times (cell 1 0) (k + 1) ≡ Zero → ⊥
     go zero inside before after = cc
     go (suc zero) inside before after = cc
     go (suc (suc k)) inside before after = omega arith
@@ -50,7 +54,7 @@ never_falls over = go over.number over.inside over.before over.after
 falls_late : TogglesOver nested_values (cell 1 1) false → ⊥
 falls_late over = go over.number over.inside over.before over.after
   where
-    go : (k : ℕ) → k + 2 < 4 → dumped_bit nested_values (cell 1 1) k ≡ One → dumped_bit nested_values (cell 1 1) (k + 1) ≡ Zero → ⊥
+    go : (k : ℕ) → k + 2 < 4 → dumped_bit nested_values nested_times (cell 1 1) k ≡ One → dumped_bit nested_values nested_times (cell 1 1) (k + 1) ≡ Zero → ⊥
     go zero inside before after = cc
     go (suc zero) inside before after = cc
     go (suc (suc k)) inside before after = omega arith

@@ -59,10 +59,10 @@ abbrev pub nested_dump : Dump
 nested_dump = record {
   vars = record { scope = codes "tb.dut"; kind = codes "wire"; name = codes "a"; size = 2; code = 0 }
       ∷ record { scope = codes "tb.dut.u"; kind = codes "wire"; name = codes "k"; size = 1; code = 1 } ∷ [];
-  steps = record { time = 0; changes = changed 0 (Zero ∷ Zero ∷ []) ∷ changed 1 (Zero ∷ []) ∷ [] }
+  stretches = (record { time = 0; changes = changed 0 (Zero ∷ Zero ∷ []) ∷ changed 1 (Zero ∷ []) ∷ [] }
       ∷ record { time = 5; changes = changed 0 (One ∷ Zero ∷ []) ∷ changed 1 (One ∷ []) ∷ [] }
       ∷ record { time = 10; changes = changed 0 (X ∷ One ∷ []) ∷ changed 1 (Zero ∷ []) ∷ [] }
-      ∷ record { time = 15; changes = changed 0 (X ∷ Zero ∷ []) ∷ changed 1 (One ∷ []) ∷ [] } ∷ [];
+      ∷ record { time = 15; changes = changed 0 (X ∷ Zero ∷ []) ∷ changed 1 (One ∷ []) ∷ [] } ∷ []) ∷ [];
 }
 
 -- the design with plain trees

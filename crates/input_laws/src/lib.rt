@@ -2,7 +2,8 @@
 //!
 //! Some run of such a design shows whatever a dump says of it, so no dump contradicts it ([`shown_law`]). A table of the
 //! design that is sound and reasoned leaves no point undetermined: its points are toggle points, and each is marked hit
-//! exactly where the dump toggles the bit from one listed time to the next, the last one left out ([`exact_law`]).
+//! exactly where the dump toggles the bit from one listed time of a stretch to the next, the last one of the stretch left out
+//! ([`exact_law`]).
 #![tactic(auto)]
 
 ghost use Rattle.design_model.specs.FlipFlop.{flip_flop};
@@ -12,7 +13,7 @@ ghost use Rattle.input_laws.specs.Shown.{NoContradictionLaw, ShownLaw};
 ghost use Rattle.input_laws.specs.Worked.{AreWorkedToggles, IsWorkedRow, IsWorkedRun};
 
 /// Whatever a dump says of a design of inputs, some run of the design shows it, and so no time of a dump contradicts the
-/// design. A dump is any list of variables and steps, so also what was read of a text up to a time.
+/// design. A dump is any list of variables and any stretches in order, so also what was read of a text up to a time.
 pub fn shown_law()
     ensures shown { ShownLaw }
     ensures no_contradiction { NoContradictionLaw }

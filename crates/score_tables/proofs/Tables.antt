@@ -1,5 +1,5 @@
 -- The table that is collected with scored verdicts.
-use Rattle.std.proofs.Common.{◌≡◌, ℕ, List, [], None, Ok, Err, false, refl, subst, sym, ◌∙◌}
+use Rattle.std.proofs.Common.{◌≡◌, ℕ, List, Ok, Err, subst, sym, ◌∙◌}
 use Rattle.std.specs.List.{All}
 use Rattle.std.specs.Prelude.{IfOk, Result}
 use Rattle.std.proofs.lemmas.List.Elements.{All-weaker}
@@ -10,38 +10,22 @@ use Rattle.cover_points.specs.declared.listing.Points.{Points}
 use Rattle.design_model.specs.Design.{Design}
 use Rattle.design_model.specs.Lawful.{IsLawfulDesign}
 use Rattle.cover_points.specs.design_machines.state_machines.Machines.{StateMachines}
-use Rattle.design_model.specs.Shows.{BoundDump, IsWindow}
+use Rattle.design_model.specs.Shows.{BoundDump}
 use Rattle.design_points.specs.Counted.{AreAllPoints}
 use Rattle.event_machine.specs.Habit.{Habit}
 use Rattle.instance_paths.specs.Rooted.{IsRooted}
-use Rattle.verdict_laws.specs.mark_laws.Marked.{AreVerdicts}
 use Rattle.point_marks.specs.declared.verdict.Verdict.{Verdict}
 use Rattle.point_marks.specs.declared.verdict.Verdict.TheVariants.{Hit, Missed, Undetermined}
 use Rattle.verdict_laws.specs.point_table.Collected.{IsCollected}
 use Rattle.verdict_laws.specs.point_table.Verdicts.{AreShown, IsOfDesign}
-use Rattle.verdict_laws.specs.replay_model.Step.{Replay}
 use Rattle.verdict_laws.proofs.table_laws.Listing.{lists_points}
 use Rattle.verdict_laws.proofs.table_laws.Tables.{collected_is}
 use Rattle.verdict_laws.specs.table_laws.Written.{IsWritten, IsWrittenMachine, IsWrittenVerdict}
-use Rattle.verdict_laws.proofs.NoStep.{no_reasons, no_sound}
 use Rattle.verdict_laws.proofs.Rows.{reasoned_table, sound_table}
 use Rattle.verdict_laws.proofs.Written.{written}
 use Rattle.score_tables.specs.Scored.{AreScored, HasSmallTimes, IsScoreTable}
 use Rattle.score_tables.specs.Windows.{windows_of}
 use Rattle.score_tables.proofs.Rows.{head_is}
-
--- a replay that has reported nothing
-silent : Replay
-silent = record { kept = λ c. None; acted = λ p. false; notes = [] }
-
-pub unmarked : (d : Design) (h : Habit) (dump : BoundDump) (ps : Points) (vs : List Verdict) → ((t : ℕ) → IsWindow dump t → ⊥) → AreVerdicts d ps [] vs → AreScored d h dump ps vs
-unfolding silent
-unmarked d h dump ps vs none verdicts = record {
-  replay = silent;
-  verdicts = verdicts;
-  sound = no_sound d h dump _ silent none refl;
-  reasoned = no_reasons d h dump _ silent none refl;
-}
 
 of_design : (d : Design) (v : Verdict) → IsWrittenVerdict d v → IsOfDesign d v
 of_design d Hit w = tt
@@ -55,7 +39,7 @@ module _ (d : Design) (h : Habit) (dump : BoundDump) (ms : StateMachines) (ps : 
   pub are_of_design : All (IsOfDesign d) vs
   are_of_design = All-weaker (IsWrittenVerdict d) (IsOfDesign d) (of_design d) vs are_written
 
-  pub score_is : (names : List (List ℕ)) (windows : List Window) (db : Db) → All IsWrittenMachine ps.machines.items → IsWritten names d → IsRooted d → AreWindows windows → windows ≡ windows_of dump.times → IsCollected d names ps db → db.windows ≡ windows → AreShown d vs db.points → IsScoreTable d h dump ms names db
+  pub score_is : (names : List (List ℕ)) (windows : List Window) (db : Db) → All IsWrittenMachine ps.machines.items → IsWritten names d → IsRooted d → AreWindows windows → windows ≡ windows_of dump.stretches → IsCollected d names ps db → db.windows ≡ windows → AreShown d vs db.points → IsScoreTable d h dump ms names db
   score_is names windows db named is_written rooted rise of_dump is kept shown =
       let table : IsTable db = collected_is d names ps vs db lawful is_written (ms, all.listed) all.few named are_written is (subst AreWindows (sym kept) rise) shown in
       record {

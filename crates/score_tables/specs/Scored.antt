@@ -36,4 +36,4 @@ pub record IsScoreTable (d : Design) (h : Habit) (dump : BoundDump) (ms : StateM
   pub listed : ListsPoints d ms db
   pub sound : IsSound d h dump ms db
   pub reasoned : IsReasoned d h dump ms db
-  pub windows : db.windows ≡ windows_of dump.times
+  pub windows : db.windows ≡ windows_of dump.stretches

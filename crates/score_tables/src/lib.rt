@@ -2,11 +2,9 @@
 //!
 //! [`score_table`] collects it, and is proved to give a table that lists each point of the design once, where a point marked hit is
 //! hit and one marked missed is never hit in every run that shows the dump, and where each other one has its reason
-//! (`specs/Scored.antt`). Under a dump of fewer than two times no point is marked, and that is right ([`unmarked_law`]).
+//! (`specs/Scored.antt`). It has a window for each stretch of the dump that lists two times.
 #![tactic(auto)]
 
-mod laws;
 mod table;
 
-pub use laws::unmarked_law;
 pub use table::score_table;

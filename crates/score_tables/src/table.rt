@@ -39,7 +39,7 @@ pub fn score_table(
     requires windows { AreWindows windows }
     requires scored { (h : Habit) × (dump : BoundDump) × HasSmallTimes dump × AreScored (design_view design.now) h dump points.now marks.now.verdicts }
     ensures { (h : Habit) (dump : BoundDump) (ms : StateMachines) → AreAllPoints (design_view design.now) ms points.now → HasSmallTimes dump → AreScored (design_view design.now) h dump points.now marks.now.verdicts
-        → windows ≡ windows_of dump.times → IfOk result (IsScoreTable (design_view design.now) h dump ms sources) }
+        → windows ≡ windows_of dump.stretches → IfOk result (IsScoreTable (design_view design.now) h dump ms sources) }
 {
     collect(alloc, design, points, marks, windows, sources)
 }

@@ -1,12 +1,13 @@
 use Rattle.std.proofs.Common.{length, refl, sym, ap, subst, ◌∙◌}
 use Rattle.bound_codes.specs.Codes.{AreWanted}
 use Rattle.code_values.specs.Values.{value_of}
-use Rattle.replay_core.specs.Parts.{IsNew, given_of}
+use Rattle.replay_core.specs.Parts.{IsPausedPhase, given_of}
 use Rattle.replay_core.specs.wake_laws.Laws.{habit_of}
 use Rattle.shown_dumps.proofs.Dumps.{codes_long}
 use Rattle.shown_dumps.specs.Shown.{code_at}
 use Rattle.signal_binding.specs.Binding.{codes_of}
-use Rattle.dump_replay.specs.Followed.{Follows}
+use Rattle.dump_replay.specs.Followed.{Follows, Pauses}
+use Rattle.dump_replay.proofs.Closing.{new_holds}
 use Rattle.dump_replay.proofs.Taken.{taken_none}
 use Rattle.dump_replay.proofs.replay.DumpReplay.new.Goals as goal
 
@@ -34,5 +35,7 @@ returns-clause-followed c =
       };
       first = refl;
       last = refl;
-      taken = taken_none (Follows c.in_ok-replay.replay) (IsNew c.in_ok-replay.replay) (codes_of c.args.design.now c.args.vars.now c.args.instance.now) (value_of (given_of c.in_ok-replay.replay)) c.in_ok-replay.ensures.values c.in_ok-replay.ensures.new;
+      windows = c.in_ok-windows.ensures;
+      taken = taken_none (Follows c.in_ok-replay.replay) (Pauses c.in_ok-replay.replay) (IsPausedPhase c.in_ok-replay.replay) (codes_of c.args.design.now c.args.vars.now c.args.instance.now) (value_of (given_of c.in_ok-replay.replay)) c.in_ok-replay.ensures.values c.in_ok-replay.ensures.off
+          (new_holds c.in_ok-replay.replay c.args.design.now c.args.vars.now c.args.instance.now c.in_ok-replay.ensures.design (c.in_ok-replay.ensures.codes ∙ codes) c.in_ok-replay.ensures.paused);
     }

@@ -9,5 +9,5 @@ pub returns-in-Some-clause-fault : goal.returns-in-Some-clause-fault
 returns-in-Some-clause-fault c = c.open_later.ensures.fault
 
 pub returns-in-None-clause-followed : goal.returns-in-None-clause-followed
-returns-in-None-clause-followed c habit design points vars instance entries are rises f =
-    first_opened c.args.self.now record { replay = c.args.self.now.replay; wanted = c.args.self.now.wanted; first = Some c.args.time; last = Some c.args.time } c.args.time c.in-None.is refl refl refl refl habit design points vars instance entries f
+returns-in-None-clause-followed c habit design points vars instance entries are ordered f =
+    first_opened c.args.self.now record c.args.self.now { first = Some c.args.time; last = Some c.args.time } c.args.time c.in-None.is refl refl refl refl refl habit design points vars instance entries ordered.in_turn f
