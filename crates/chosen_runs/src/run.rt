@@ -72,7 +72,7 @@ pub fn run_chosen<N: BlockNotes, L: Ledger>(
         design,
         process as usize,
         trigger,
-        sets.early_things(),
+        sets,
         written,
         codes,
         values,

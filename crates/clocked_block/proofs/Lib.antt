@@ -1,1 +1,2 @@
 pub mod Ran
+mod Entered

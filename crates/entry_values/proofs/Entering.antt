@@ -20,7 +20,7 @@ use Rattle.entry_values.specs.Entry.{IsEntryOf, early_bits, entered}
 use Rattle.entry_values.proofs.Entries.{bit_of, early_at, trigger_at}
 
 -- the order of two numbers does not count in a test whether they are equal
-same_order : (a b : ℕ) → (a == b) ≡ (b == a)
+pub same_order : (a b : ℕ) → (a == b) ≡ (b == a)
 same_order a b = grind (arith, nat_tests)
 
 or_swapped : (a b : Bool) → (a || b) ≡ (b || a)

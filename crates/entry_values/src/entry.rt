@@ -22,7 +22,7 @@ use run_views::{Store, show_value, veil_thing};
 /// Until [`run_views::show_kept`], bodies read what a clean block is entered with by this trigger, where these signals and
 /// memories are early, the trigger not among them. `codes` has the code of each signal. It takes no memory, constant time for
 /// each signal, and time for the words of each memory.
-pub fn show_entry(
+pub(crate) fn show_entry(
     store: &mut Store,
     design: &Design,
     trigger: u32,
@@ -50,7 +50,7 @@ pub fn show_entry(
 }
 
 /// Bodies read what may be read of an early signal or memory.
-fn show_early(
+pub(crate) fn show_early(
     store: &mut Store,
     design: &Design,
     thing: u32,
@@ -74,7 +74,12 @@ fn show_early(
 }
 
 /// Bodies read the new value of the trigger.
-fn show_trigger(store: &mut Store, trigger: u32, codes: &[Option<u32>], values: &CodeValues)
+pub(crate) fn show_trigger(
+    store: &mut Store,
+    trigger: u32,
+    codes: &[Option<u32>],
+    values: &CodeValues,
+)
     requires place { trigger < length store.old.design.now.signals }
     requires coded { has_code codes.now trigger ≡ true }
     requires after { (new : CellValues Bit) × AreDumped (design_view store.old.design.now) codes.now values.now.last new }

@@ -2,11 +2,12 @@
 //! its old and its new value have in common, and nothing known of each other early signal or memory (IEEE 1364-2001, clause 5:
 //! the order of events in a step is free, so what may change before the block is evaluated may have either value).
 //!
-//! [`show_entry`] shows and veils these in a store, which bodies then meet as `clean_store` of the definition of the replay
-//! has it. [`show_kept`] ends it.
+//! [`enter_block`] shows and veils these in a store, as far as the body of a block mentions or assigns them: its run then is that on
+//! `clean_store` of the definition of the replay. [`show_kept`] ends it.
 #![tactic(auto)]
 
 mod entry;
+mod needed;
 
-pub use entry::show_entry;
+pub use needed::enter_block;
 pub use run_views::{Store, show_kept};

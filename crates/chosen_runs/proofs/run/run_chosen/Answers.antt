@@ -12,15 +12,15 @@ pub run_clean-requires-clause-things : goal.run_clean-requires-clause-things
 run_clean-requires-clause-things g c =
     let w = state_of c.args.sets.now in
     let v = state_of c.choose_early.new.sets in
-    let is : IsEarlyList v c.args.habit c.args.process c.args.trigger c.early_things.result.now = subst (IsEarlyList v c.args.habit c.args.process c.args.trigger) (sym c.early_things.ensures.value) c.choose_early.ensures.early in
-    all_inside w v c.choose_early.ensures.rest c.args.habit c.args.process c.args.trigger c.early_things.result.now is (length c.args.design.now.signals + length c.args.design.now.memories) c.requires.inside
+    let is : IsEarlyList v c.args.habit c.args.process c.args.trigger v.early = c.choose_early.ensures.early in
+    all_inside w v c.choose_early.ensures.rest c.args.habit c.args.process c.args.trigger v.early is (length c.args.design.now.signals + length c.args.design.now.memories) c.requires.inside
 
 pub run_clean-requires-clause-entered : goal.run_clean-requires-clause-entered
 run_clean-requires-clause-entered g c =
     let w = state_of c.args.sets.now in
     let v = state_of c.choose_early.new.sets in
-    let early : List ℕ = c.early_things.result.now in
-    let is : IsEarlyList v c.args.habit c.args.process c.args.trigger early = subst (IsEarlyList v c.args.habit c.args.process c.args.trigger) (sym c.early_things.ensures.value) c.choose_early.ensures.early in
+    let early : List ℕ = v.early in
+    let is : IsEarlyList v c.args.habit c.args.process c.args.trigger early = c.choose_early.ensures.early in
     let old : Closing = c.requires.ready.0 in
     let st : Closing = record old { sets = record old.sets { early = λ q. is_in early } } in
     let d = c.requires.ready.3 in
@@ -37,14 +37,14 @@ pub returns-clause-runs : goal.returns-clause-runs
 returns-clause-runs g c = λ st u ps by dumped in_step h.
     let w = state_of c.args.sets.now in
     let v = state_of c.choose_early.new.sets in
-    let early : List ℕ = c.early_things.result.now in
-    let is : IsEarlyList v c.args.habit c.args.process c.args.trigger early = subst (IsEarlyList v c.args.habit c.args.process c.args.trigger) (sym c.early_things.ensures.value) c.choose_early.ensures.early in
+    let early : List ℕ = v.early in
+    let is : IsEarlyList v c.args.habit c.args.process c.args.trigger early = c.choose_early.ensures.early in
     c.run_clean.ensures.runs st u ps by (entry_here w v c.choose_early.ensures.rest c.args.habit c.args.process c.args.trigger early is st c.args.codes.now c.args.values.now dumped c.requires.coded in_step) h
 
 pub returns-clause-notes : goal.returns-clause-notes
 returns-clause-notes g c = λ st u ps by dumped in_step h.
     let w = state_of c.args.sets.now in
     let v = state_of c.choose_early.new.sets in
-    let early : List ℕ = c.early_things.result.now in
-    let is : IsEarlyList v c.args.habit c.args.process c.args.trigger early = subst (IsEarlyList v c.args.habit c.args.process c.args.trigger) (sym c.early_things.ensures.value) c.choose_early.ensures.early in
+    let early : List ℕ = v.early in
+    let is : IsEarlyList v c.args.habit c.args.process c.args.trigger early = c.choose_early.ensures.early in
     c.run_clean.ensures.notes st u ps by (entry_here w v c.choose_early.ensures.rest c.args.habit c.args.process c.args.trigger early is st c.args.codes.now c.args.values.now dumped c.requires.coded in_step) h

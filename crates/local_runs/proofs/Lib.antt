@@ -1,0 +1,3 @@
+mod Locals
+mod LocalRuns
+pub mod Narrow

@@ -1,0 +1,2 @@
+pub mod Narrowed
+pub use Rattle.body_replay.specs as body_replay
