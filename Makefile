@@ -11,9 +11,7 @@
 
 PREFIX ?= /usr/local
 PROGRAM = crates/covered/out/covered
-STAGE = missing-inputs
-# parts of later stages that are already there: dumps and bindings
-AHEAD = pieces
+STAGE = selfrun
 PADS = examples/pads
 ALU = examples/alu
 UART = examples/uart
@@ -58,7 +56,7 @@ test:
 cases rows: build built-cases
 
 built-cases:
-	python3 cases/run.py $(PROGRAM) --stage $(STAGE) $(AHEAD:%=--ahead %)
+	python3 cases/run.py $(PROGRAM) --stage $(STAGE)
 	sh cases/points_limit.sh $(PROGRAM)
 	bash cases/arguments.sh $(PROGRAM)
 	bash cases/bytes.sh $(PROGRAM)

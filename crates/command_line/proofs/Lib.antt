@@ -8,6 +8,7 @@ pub mod FilesAmong
 pub mod DatabaseItems
 pub mod DatabaseReading
 pub mod DatabaseOutcome
+pub mod SelfrunOutcome
 pub mod Outcome
 pub mod OneCommand
 pub mod LcovReading

@@ -6,7 +6,7 @@ use Rattle.std.proofs.lemmas.Bool.{false≢true}
 use Rattle.std.proofs.lemmas.Slice.Eq.{bytes_eq-Decides}
 use Rattle.command_line.specs.declared.report_level.ReportLevel.{ReportLevel}
 use Rattle.command_line.specs.declared.report_metrics.ReportMetrics.{ReportMetrics}
-use Rattle.command_line.specs.Command.{AreWordsOf, CommandValues, score, merge, report, lcov, rank, exclude, restore}
+use Rattle.command_line.specs.Command.{AreWordsOf, CommandValues, score, merge, report, lcov, rank, exclude, restore, selfrun}
 use Rattle.command_line.specs.CommandWords.{at_most_one, flag_values, AreValues, GivenOption, IsScore, ScoreValues}
 use Rattle.command_line.specs.Define.{Define}
 use Rattle.command_line.specs.DrawingWords.{DrawingNames}
@@ -15,7 +15,9 @@ use Rattle.command_line.specs.DatabaseWords.{AreMergeValues, AreReportValues, Is
 use Rattle.command_line.specs.LcovWords.{AreLcovValues, IsLcov, LcovValues}
 use Rattle.command_line.specs.PointWords.{ArePointValues, IsExclude, IsRestore, PointValues}
 use Rattle.command_line.specs.RankWords.{AreRankValues, IsRank, RankValues}
-use Rattle.command_line.proofs.Outcome.{outcome_of-score, outcome_of-merge, outcome_of-report, outcome_of-lcov, outcome_of-rank, outcome_of-exclude, outcome_of-restore}
+use Rattle.command_line.specs.SelfrunWords.{IsSelfrun}
+use Rattle.command_line.specs.declared.selfrun_words.SelfrunWords.{SelfrunWords}
+use Rattle.command_line.proofs.Outcome.{outcome_of-score, outcome_of-merge, outcome_of-report, outcome_of-lcov, outcome_of-rank, outcome_of-exclude, outcome_of-restore, outcome_of-selfrun}
 
 -- the values as one
 all_values : (top instance : List ℕ) (sources : List (List ℕ)) (defines : List Define) (folder : Option (List ℕ)) (dump output : List ℕ) (machines : List MachineNames) (drawings : List DrawingNames) (late : Bool) → ScoreValues
@@ -122,6 +124,9 @@ one_restore words a b is_a is_b =
     let same : is_b.0 ≡ is_a.0 = cc in
     one_point_values is_a.0 a b is_a.2 (rw (same) at is_b.2)
 
+pub one_selfrun : (words : List (List ℕ)) (a b : SelfrunWords) → IsSelfrun words a → IsSelfrun words b → a ≡ b
+one_selfrun words a b is_a is_b = let e = sym (outcome_of-selfrun words a is_a) ∙ outcome_of-selfrun words b is_b in cc
+
 -- ---- words of one kind of command are none of another kind
 
 -- the word that the command begins with
@@ -133,6 +138,7 @@ name_of (lcov values) = codes "lcov"
 name_of (rank values) = codes "rank"
 name_of (exclude values) = codes "exclude"
 name_of (restore values) = codes "restore"
+name_of (selfrun values) = codes "selfrun"
 
 first_word : List (List ℕ) → List ℕ
 first_word [] = []
@@ -147,6 +153,7 @@ named_by_first words (lcov values) is = ap first_word is.1.spells
 named_by_first words (rank values) is = ap first_word is.1.spells
 named_by_first words (exclude values) is = ap first_word is.1.spells
 named_by_first words (restore values) is = ap first_word is.1.spells
+named_by_first words (selfrun values) is = ap first_word is.spells
 
 one_of_name : (words : List (List ℕ)) (a b : CommandValues) → bytes_eq (name_of a) (name_of b) ≡ true → AreWordsOf a words → AreWordsOf b words → a ≡ b
 unfolding name_of
@@ -157,6 +164,7 @@ one_of_name words (lcov a) (lcov b) same is_a is_b = ap lcov (one_lcov words a b
 one_of_name words (rank a) (rank b) same is_a is_b = ap rank (one_rank words a b is_a is_b)
 one_of_name words (exclude a) (exclude b) same is_a is_b = ap exclude (one_exclude words a b is_a is_b)
 one_of_name words (restore a) (restore b) same is_a is_b = ap restore (one_restore words a b is_a is_b)
+one_of_name words (selfrun a) (selfrun b) same is_a is_b = ap selfrun (one_selfrun words a b is_a is_b)
 one_of_name words a b same is_a is_b = absurd (false≢true same)
 
 pub one_of_all : (words : List (List ℕ)) (a b : CommandValues) → AreWordsOf a words → AreWordsOf b words → a ≡ b

@@ -9,23 +9,27 @@ use Rattle.command_line.specs.declared.database_command.DatabaseCommand.TheVaria
 use Rattle.command_line.specs.declared.database_option.DatabaseOption.TheVariants.{Output, Point}
 use Rattle.command_line.specs.declared.score_option.ScoreOption.TheVariants.{Source}
 use Rattle.command_line.specs.declared.usage_fault.UsageFault.{UsageFault}
-use Rattle.command_line.specs.declared.usage_fault.UsageFault.TheVariants.{NoCommand, UnknownCommand}
-use Rattle.command_line.specs.Command.{AreWordsOf, CommandValues, score, merge, report, lcov, rank, exclude, restore}
+use Rattle.command_line.specs.declared.usage_fault.UsageFault.TheVariants.{NoCommand, UnknownCommand, UnknownWord, BadValue, Missing}
+use Rattle.command_line.specs.declared.selfrun_words.SelfrunWords.{SelfrunWords}
+use Rattle.command_line.specs.Command.{AreWordsOf, CommandValues, score, merge, report, lcov, rank, exclude, restore, selfrun}
 use Rattle.command_line.specs.CommandWords.{is_absent, AreValues, GivenOption, IsScore, ScoreValues}
 use Rattle.command_line.specs.DatabaseFault.{missing_in, missing_of_merge, missing_of_points, HasDatabaseFault}
 use Rattle.command_line.specs.DatabaseWords.{AreMergeValues, AreReportValues, Item, IsMerge, IsReport, IsUpTo, MergeValues, ReportValues, command_text, files_in, value_in}
 use Rattle.command_line.specs.LcovWords.{AreLcovValues, IsLcov, LcovValues}
 use Rattle.command_line.specs.PointWords.{ArePointValues, IsExclude, IsRestore, PointValues}
 use Rattle.command_line.specs.RankWords.{AreRankValues, IsRank, RankValues}
+use Rattle.command_line.specs.SelfrunWords.{HasSelfrunFault, IsSelfrun}
 use Rattle.command_line.specs.UsageFault.{usage_text, HasScoreFault, HasUsageFault}
 use Rattle.command_line.proofs.GivenLemmas.{not_empty}
 use Rattle.command_line.proofs.DatabaseOutcome as database
 use Rattle.command_line.proofs.ScoreOutcome as scoring
+use Rattle.command_line.proofs.SelfrunOutcome as numbering
 
--- the options of a `score` command, or the items of one that reads databases
+-- the options of a `score` command, the items of one that reads databases, or the values of a selfrun
 pub data Parsed : Type 0 where
   options : List GivenOption → Parsed
   items : DatabaseCommand → List Item → Parsed
+  numbers : SelfrunWords → Parsed
 
 abbrev pub mapped : {A B E : Type 0} → (A → B) → Result A E → Result B E
 mapped f (Ok x) = Ok (f x)
@@ -40,7 +44,8 @@ outcome_of (word ∷ left) =
     (cond (bytes_eq word (codes "lcov")) (mapped (items Lcov) (database.outcome Lcov [] left))
     (cond (bytes_eq word (codes "rank")) (mapped (items Rank) (database.outcome Rank [] left))
     (cond (bytes_eq word (codes "exclude")) (mapped (items Exclude) (database.outcome Exclude [] left))
-    (cond (bytes_eq word (codes "restore")) (mapped (items Restore) (database.outcome Restore [] left)) (Err (codes "unknown command " ++ word))))))))
+    (cond (bytes_eq word (codes "restore")) (mapped (items Restore) (database.outcome Restore [] left))
+    (cond (bytes_eq word (codes "selfrun")) (mapped numbers (numbering.outcome left)) (Err (codes "unknown command " ++ word)))))))))
 
 outcome_of-database : (command : DatabaseCommand) (left : List (List ℕ)) → outcome_of (command_text command ∷ left) ≡ mapped (items command) (database.outcome command [] left)
 outcome_of-database Merge left = refl
@@ -62,9 +67,23 @@ outcome_of-score_fault words fault h = ap outcome_of h.2.spells ∙ ap (mapped o
 outcome_of-database_fault : (command : DatabaseCommand) (words : List (List ℕ)) (fault : UsageFault) → HasDatabaseFault command words fault → outcome_of words ≡ Err (usage_text fault)
 outcome_of-database_fault command words fault h = outcome_of-items command words h.0 h.1 h.2 ∙ ap (mapped (items command)) (database.outcome-fault command h.0 h.1 fault h.3)
 
+abbrev missing : List ℕ → Result Parsed (List ℕ)
+missing word = Err (codes "missing " ++ word)
+
+missing_text : (name word : List ℕ) → word ≡ name → missing name ≡ missing word
+missing_text name word same = ap missing (sym same)
+
+outcome_of-selfrun_fault : (words : List (List ℕ)) (fault : UsageFault) → HasSelfrunFault words fault → outcome_of words ≡ Err (usage_text fault)
+outcome_of-selfrun_fault words (Missing word) (inl (spells, name)) = ap outcome_of spells ∙ missing_text (codes "NUMBER") word.now name
+outcome_of-selfrun_fault words (Missing word) (inr (first, number, spells, has, name)) = ap outcome_of spells ∙ rw (numbering.number_true first number has) (missing_text (codes "STEPS") word.now name)
+outcome_of-selfrun_fault words (BadValue word) (inl (rest, spells, none)) = ap outcome_of spells ∙ rw (numbering.number_false word.now none) refl
+outcome_of-selfrun_fault words (BadValue word) (inr (first, number, rest, spells, has, none)) = ap outcome_of spells ∙ rw (numbering.number_true first number has, numbering.steps_false word.now none) refl
+outcome_of-selfrun_fault words (UnknownWord word) (first, second, number, steps, rest, spells, has, more) = ap outcome_of spells ∙ rw (numbering.number_true first number has, numbering.steps_true second steps more) refl
+outcome_of-selfrun_fault words fault h = absurd h
+
 outcome_of-any_fault : (words : List (List ℕ)) (fault : UsageFault)
     → HasScoreFault words fault ⊎ HasDatabaseFault Merge words fault ⊎ HasDatabaseFault Report words fault ⊎ HasDatabaseFault Lcov words fault
-    ⊎ HasDatabaseFault Rank words fault ⊎ HasDatabaseFault Exclude words fault ⊎ HasDatabaseFault Restore words fault
+    ⊎ HasDatabaseFault Rank words fault ⊎ HasDatabaseFault Exclude words fault ⊎ HasDatabaseFault Restore words fault ⊎ HasSelfrunFault words fault
     → outcome_of words ≡ Err (usage_text fault)
 outcome_of-any_fault words fault (inl of_score) = outcome_of-score_fault words fault of_score
 outcome_of-any_fault words fault (inr (inl of_merge)) = outcome_of-database_fault Merge words fault of_merge
@@ -72,7 +91,8 @@ outcome_of-any_fault words fault (inr (inr (inl of_report))) = outcome_of-databa
 outcome_of-any_fault words fault (inr (inr (inr (inl of_lcov)))) = outcome_of-database_fault Lcov words fault of_lcov
 outcome_of-any_fault words fault (inr (inr (inr (inr (inl of_rank))))) = outcome_of-database_fault Rank words fault of_rank
 outcome_of-any_fault words fault (inr (inr (inr (inr (inr (inl of_exclude)))))) = outcome_of-database_fault Exclude words fault of_exclude
-outcome_of-any_fault words fault (inr (inr (inr (inr (inr (inr of_restore)))))) = outcome_of-database_fault Restore words fault of_restore
+outcome_of-any_fault words fault (inr (inr (inr (inr (inr (inr (inl of_restore))))))) = outcome_of-database_fault Restore words fault of_restore
+outcome_of-any_fault words fault (inr (inr (inr (inr (inr (inr (inr of_selfrun))))))) = outcome_of-selfrun_fault words fault of_selfrun
 
 no_name : (word name : List ℕ) → (word ≡ name → ⊥) → bytes_eq word name ≡ false
 no_name word name other = false_from_ne_true (bytes_eq word name) (λ e. other ((bytes_eq-Decides word name).0 e))
@@ -83,7 +103,7 @@ outcome_of-fault words NoCommand h = ap outcome_of h
 outcome_of-fault words (UnknownCommand word) h =
     let other = no_name word.now in
     ap outcome_of h.0.1
-    ∙ rw (other (codes "score") h.1.0, other (codes "merge") h.1.1, other (codes "report") h.1.2, other (codes "lcov") h.1.3, other (codes "rank") h.1.4, other (codes "exclude") h.1.5, other (codes "restore") h.1.6)
+    ∙ rw (other (codes "score") h.1.0, other (codes "merge") h.1.1, other (codes "report") h.1.2, other (codes "lcov") h.1.3, other (codes "rank") h.1.4, other (codes "exclude") h.1.5, other (codes "restore") h.1.6, other (codes "selfrun") h.1.7)
 outcome_of-fault words fault h = outcome_of-any_fault words fault h
 
 -- all that a command needs was given
@@ -145,6 +165,9 @@ outcome_of-exclude words values is = outcome_of-items Exclude words is.0 [] is.1
 pub outcome_of-restore : (words : List (List ℕ)) (values : PointValues) (is : IsRestore words values) → outcome_of words ≡ Ok (items Restore is.0)
 outcome_of-restore words values is = outcome_of-items Restore words is.0 [] is.1 ∙ ap (mapped (items Restore)) (ap (database.at_end is.0) (points_end is.0 values is.2))
 
+pub outcome_of-selfrun : (words : List (List ℕ)) (values : SelfrunWords) (is : IsSelfrun words values) → outcome_of words ≡ Ok (numbers values)
+outcome_of-selfrun words values is = ap outcome_of is.spells ∙ ap (mapped numbers) (numbering.outcome-values is.first is.second values is.number is.steps)
+
 -- so words that come to a command have no fault
 pub command_without_fault : (words : List (List ℕ)) (values : CommandValues) (fault : UsageFault) → AreWordsOf values words → HasUsageFault words fault → ⊥
 command_without_fault words (score values) fault is has = let e = sym (outcome_of-score words values is) ∙ outcome_of-fault words fault has in cc
@@ -154,3 +177,4 @@ command_without_fault words (lcov values) fault is has = let e = sym (outcome_of
 command_without_fault words (rank values) fault is has = let e = sym (outcome_of-rank words values is) ∙ outcome_of-fault words fault has in cc
 command_without_fault words (exclude values) fault is has = let e = sym (outcome_of-exclude words values is) ∙ outcome_of-fault words fault has in cc
 command_without_fault words (restore values) fault is has = let e = sym (outcome_of-restore words values is) ∙ outcome_of-fault words fault has in cc
+command_without_fault words (selfrun values) fault is has = let e = sym (outcome_of-selfrun words values is) ∙ outcome_of-fault words fault has in cc

@@ -20,3 +20,4 @@ pub mod LcovWords
 pub mod PointAddresses
 pub mod PointWords
 pub mod RankWords
+pub mod SelfrunWords

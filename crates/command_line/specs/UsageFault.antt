@@ -8,6 +8,7 @@ use Rattle.command_line.specs.declared.database_command.DatabaseCommand.TheVaria
 use Rattle.command_line.specs.DatabaseFault.{HasDatabaseFault}
 use Rattle.command_line.specs.ScoreOption.{required, option_text, accepts, takes_value}
 use Rattle.command_line.specs.CommandWords.{GivenOption, is_absent, may_follow, IsScoreUpTo}
+use Rattle.command_line.specs.SelfrunWords.{HasSelfrunFault}
 
 -- the text of the fault
 abbrev pub usage_text : UsageFault → List ℕ
@@ -65,7 +66,7 @@ HasScoreFault words fault = (given : List GivenOption) × (left : List (List ℕ
 -- the word names no command
 abbrev pub NamesNoCommand : List ℕ → Type 0
 NamesNoCommand word =
-    (word ≢ codes "score") × (word ≢ codes "merge") × (word ≢ codes "report") × (word ≢ codes "lcov") × (word ≢ codes "rank") × (word ≢ codes "exclude") × (word ≢ codes "restore")
+    (word ≢ codes "score") × (word ≢ codes "merge") × (word ≢ codes "report") × (word ≢ codes "lcov") × (word ≢ codes "rank") × (word ≢ codes "exclude") × (word ≢ codes "restore") × (word ≢ codes "selfrun")
 
 -- the words are no command, and this is their first fault from the left
 abbrev pub HasUsageFault : List (List ℕ) → UsageFault → Type 0
@@ -73,4 +74,4 @@ HasUsageFault words NoCommand = words ≡ []
 HasUsageFault words (UnknownCommand word) = BeginsWith word.now words × NamesNoCommand word.now
 HasUsageFault words fault =
     HasScoreFault words fault ⊎ HasDatabaseFault Merge words fault ⊎ HasDatabaseFault Report words fault ⊎ HasDatabaseFault Lcov words fault
-    ⊎ HasDatabaseFault Rank words fault ⊎ HasDatabaseFault Exclude words fault ⊎ HasDatabaseFault Restore words fault
+    ⊎ HasDatabaseFault Rank words fault ⊎ HasDatabaseFault Exclude words fault ⊎ HasDatabaseFault Restore words fault ⊎ HasSelfrunFault words fault

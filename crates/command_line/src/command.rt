@@ -9,9 +9,11 @@ use crate::database_words::{
     read_exclude, read_lcov, read_merge, read_rank, read_report, read_restore,
 };
 use crate::given_values::GivenValues;
+use crate::read_selfrun::read_selfrun;
 use crate::words_left::WordsLeft;
 use crate::{
-    LcovWords, MergeWords, PointWords, RankWords, ReportWords, ScoreOption, ScoreWords, UsageFault,
+    LcovWords, MergeWords, PointWords, RankWords, ReportWords, ScoreOption, ScoreWords,
+    SelfrunWords, UsageFault,
 };
 use cov_host::Words;
 
@@ -32,6 +34,8 @@ pub enum Command<'a> {
     Exclude(PointWords<'a>),
     /// Takes points back into the totals of a report.
     Restore(PointWords<'a>),
+    /// Scores a design and a dump that the program makes itself, and prints what came out.
+    Selfrun(SelfrunWords),
 }
 
 /// Reads the words that follow the name of the program. It takes no memory. The fault is the first one from
@@ -50,6 +54,10 @@ pub fn read_command<'a>(words: &'a Words) -> Result<Command<'a>, UsageFault<'a>>
         Some("rank") => read_rank(&mut left).map(Command::Rank),
         Some("exclude") => read_exclude(&mut left).map(Command::Exclude),
         Some("restore") => read_restore(&mut left).map(Command::Restore),
+        Some("selfrun") => match read_selfrun(&mut left) {
+            Ok(selfrun) => Ok(Command::Selfrun(selfrun)),
+            Err(fault) => Err(fault),
+        },
         Some(word) => Err(UsageFault::UnknownCommand(word)),
     }
 }

@@ -2,7 +2,7 @@
 use Rattle.std.proofs.Common.{◌≡◌, inl, inr, ℕ, List, Option, None, Some, refl, sym, ap, subst, ◌∙◌}
 use Rattle.std.specs.Prelude.{IfSome, IsSome, IsSomeAnd, MatchOption}
 use Rattle.command_line.proofs.OneCommand.{one_command, one_of_all}
-use Rattle.command_line.specs.Command.{AreWordsOf, CommandValues, score as of_score, merge as of_merge, report as of_report, lcov as of_lcov, rank as of_rank, exclude as of_exclude, restore as of_restore}
+use Rattle.command_line.specs.Command.{AreWordsOf, CommandValues, score as of_score, merge as of_merge, report as of_report, lcov as of_lcov, rank as of_rank, exclude as of_exclude, restore as of_restore, selfrun as of_selfrun}
 use Rattle.command_line.specs.CommandWords.{IsScore, ScoreValues}
 use Rattle.cov_host.specs.Outside.{Files, Outside, IsCounted}
 use Rattle.design_model.specs.Run.{Run}
@@ -30,7 +30,7 @@ use Rattle.source_design.specs.Accepted.{StandFor}
 use Rattle.source_design.specs.Reading.{HasSources, IsSourceFault}
 use Rattle.source_design.specs.declared.fault.SourceFault.{SourceFault}
 use Rattle.source_design.specs.declared.fault.SourceFault.TheVariants as source_fault
-use Rattle.covered_cli.proofs.Causes.{command_or_fault, score_or_databases}
+use Rattle.covered_cli.proofs.Causes.{command_or_fault, score_or_databases, score_or_selfrun}
 use Rattle.covered_cli.proofs.GoodDumps.{not_contradicted, not_refused, same_bound, same_shown}
 use Rattle.covered_cli.specs.Complete.{EndsWith, HasBadDump, HasBadSource, HasText, HasUnboundDump, HaveTexts, IsCommandWith, IsGoodScore, IsOfBinding, LacksPoints, NoFaults, RefusesBinding, RefusesDump, RefusesPoints}
 use Rattle.covered_cli.specs.Drawing.{IsNoMachineOf}
@@ -196,6 +196,7 @@ module _ (words : List (List ℕ)) (score : ScoreValues) (is_score : IsScore wor
       absurd (end.of_file call file.now (subst (λ score. NamesFile score call file.now) same stands.2.0) stands.2.1 (subst (λ score. HasSomeDesign score before) same stands.2.2))
   ends_with fault.Memory stands = end.of_memory
   ends_with (fault.Databases f) stands = absurd (score_or_databases words score before middle f is_score stands)
+  ends_with (fault.Selfrun f) stands = absurd (score_or_selfrun words score stands.0 is_score stands.1)
 
 -- a dump that does not bind the design is a bad one
 unbound_is_bad : (score : ScoreValues) (before : Outside) → HasUnboundDump score before → HasBadDump score before
@@ -299,6 +300,7 @@ module _ (words : List (List ℕ)) (before middle after : Outside) (first : Coun
           absurd (file_counted score u.text u.texts.dump_is call file.now (subst (λ score. NamesFile score call file.now) same stands.2.0) stands.2.1 (subst (λ score. HasSomeDesign score before) same stands.2.2))
       go fault.Memory stands warned = inr refl
       go (fault.Databases f) stands warned = absurd (score_or_databases words score before middle f is stands)
+      go (fault.Selfrun f) stands warned = absurd (score_or_selfrun words score stands.0 is stands.1)
 
   -- of a design whose points are not listed no other fault stands
   pub points_end : IsCommandWith LacksPoints words before → WarnsLine (line_of f) before after → RefusesPoints words (status_of f) before after
@@ -330,6 +332,7 @@ module _ (words : List (List ℕ)) (before middle after : Outside) (first : Coun
           absurd (not_listed score before lacks has.0 has.1 has.2)
       go fault.Memory stands warned = inr refl
       go (fault.Databases f) stands warned = absurd (score_or_databases words score before middle f is stands)
+      go (fault.Selfrun f) stands warned = absurd (score_or_selfrun words score stands.0 is stands.1)
 
 module _ (words : List (List ℕ)) (before after : Outside) (done : IsDone words before after) where
   -- what was done is done by the one command that the words are
@@ -344,6 +347,7 @@ module _ (words : List (List ℕ)) (before after : Outside) (done : IsDone words
       by_values (of_rank other) is_other by = let e = one_of_all words (of_rank other) (of_score score) is_other is in absurd (cc)
       by_values (of_exclude other) is_other by = let e = one_of_all words (of_exclude other) (of_score score) is_other is in absurd (cc)
       by_values (of_restore other) is_other by = let e = one_of_all words (of_restore other) (of_score score) is_other is in absurd (cc)
+      by_values (of_selfrun other) is_other by = absurd (score_or_selfrun words score other is is_other)
 
   pub bad_source_not_done : IsCommandWith HasBadSource words before → ⊥
   bad_source_not_done (score, is, bad) = source_done score before bad.sources bad.told bad.gathered after bad.refused (done_by score is)

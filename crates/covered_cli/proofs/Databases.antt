@@ -3,12 +3,14 @@ use Rattle.std.proofs.Common.{◌≡◌, ◌⊎◌, ℕ, ◌≤◌, List, [], �
 use Rattle.std.proofs.lemmas.List.Elements.{Contains-append_right}
 use Rattle.std.specs.Global.{Global}
 use Rattle.std.specs.Prelude.{Contains, MatchOption}
-use Rattle.command_line.specs.Command.{AreWordsOf, CommandValues, score as of_score, merge as of_merge, report as of_report, lcov as of_lcov, rank as of_rank, exclude as of_exclude, restore as of_restore}
+use Rattle.command_line.specs.Command.{AreWordsOf, CommandValues, score as of_score, merge as of_merge, report as of_report, lcov as of_lcov, rank as of_rank, exclude as of_exclude, restore as of_restore, selfrun as of_selfrun}
 use Rattle.command_line.specs.CommandWords.{IsScore, ScoreValues}
 use Rattle.command_line.specs.DatabaseWords.{MergeValues, ReportValues}
 use Rattle.command_line.specs.LcovWords.{LcovValues}
 use Rattle.command_line.specs.PointWords.{PointValues}
 use Rattle.command_line.specs.RankWords.{RankValues}
+use Rattle.command_line.specs.SelfrunWords.{IsSelfrun}
+use Rattle.command_line.specs.declared.selfrun_words.SelfrunWords.{SelfrunWords}
 use Rattle.command_line.proofs.OneCommand.{one_of_all}
 use Rattle.cov_host.specs.Outside.{Files as HostFiles, IsCounted, KeepsFiles, KeepsInput, KeepsOutput, Outside}
 use Rattle.database_commands.specs.Faults.{ComesTo, IsMergeFault, IsNoTable, IsReading, inputs_of}
@@ -47,7 +49,9 @@ use Rattle.covered_cli.specs.SourceMessage.{source_status}
 use Rattle.design_points.specs.cover_points.declared.fault.PointFault.{PointFault}
 use Rattle.design_points.specs.cover_points.declared.fault.PointFault.TheVariants as point_fault
 use Rattle.covered_cli.specs.declared.fault.Fault.{Fault}
-use Rattle.covered_cli.specs.declared.fault.Fault.TheVariants.{Usage, Source, NoMachine, Points as PointsFault, Dump, Contradiction, Files as FilesFault, Memory, Databases}
+use Rattle.covered_cli.specs.declared.fault.Fault.TheVariants.{Usage, Source, NoMachine, Points as PointsFault, Dump, Contradiction, Files as FilesFault, Memory, Databases, Selfrun}
+use Rattle.covered_cli.specs.declared.selfrun_fault.SelfrunFault.{SelfrunFault}
+use Rattle.covered_cli.specs.declared.selfrun_fault.SelfrunFault.TheVariants as selfrun_fault
 use Rattle.covered_cli.specs.declared.status.Status.TheVariants as status
 use Rattle.covered_cli.proofs.Causes.{command_or_fault}
 
@@ -67,6 +71,8 @@ early_status (Databases database.Memory) early = absurd early
 early_status (Databases (database.NoDatabase file kind line)) early = tt
 early_status (Databases (database.DesignsDiffer file line first other)) early = tt
 early_status (Databases (database.Point file refusal address)) early = tt
+early_status (Selfrun selfrun_fault.Print) early = absurd early
+early_status (Selfrun selfrun_fault.NoMemory) early = absurd early
 
 -- ---- good databases
 
@@ -79,6 +85,7 @@ IsGoodFor (of_lcov values) before = IsGoodLcov values before
 IsGoodFor (of_rank values) before = IsGoodRank values before
 IsGoodFor (of_exclude values) before = IsGoodChange change.Exclude values before
 IsGoodFor (of_restore values) before = IsGoodChange change.Restore values before
+IsGoodFor (of_selfrun values) before = ⊥
 
 -- a command over databases has the fault
 abbrev IsFaultFor : CommandValues → Outside → Outside → CommandFault → Type 0
@@ -89,6 +96,7 @@ IsFaultFor (of_lcov values) before after f = IsLcovFault values before after f
 IsFaultFor (of_rank values) before after f = IsRankFault values before after f
 IsFaultFor (of_exclude values) before after f = IsPointsFault change.Exclude values before after f
 IsFaultFor (of_restore values) before after f = IsPointsFault change.Restore values before after f
+IsFaultFor (of_selfrun values) before after f = ⊥
 
 good_command : (words : List (List ℕ)) (before : Outside) → HasGoodDatabases words before → (values : CommandValues) × AreWordsOf values words × IsGoodFor values before
 good_command words before (inl good) = (of_merge good.0, good.1, good.2)
@@ -114,6 +122,11 @@ good_or_score words before values good is =
     let command = good_command words before good in
     subst (λ values. IsGoodFor values before) (one_of_all words command.0 (of_score values) command.1 is) command.2
 
+good_or_selfrun : (words : List (List ℕ)) (before : Outside) (values : SelfrunWords) → HasGoodDatabases words before → IsSelfrun words values → ⊥
+good_or_selfrun words before values good is =
+    let command = good_command words before good in
+    subst (λ values. IsGoodFor values before) (one_of_all words command.0 (of_selfrun values) command.1 is) command.2
+
 good_fault_for : (alloc : Global) (values : CommandValues) (before after : Outside) → IsGoodFor values before → NoFaults before after → (f : CommandFault) → IsFaultFor values before after f → f ≡ database.Memory
 good_fault_for alloc (of_score values) before after good none f fault = absurd good
 good_fault_for alloc (of_merge values) before after good none f fault = good_merge alloc values before after good none f fault
@@ -122,6 +135,7 @@ good_fault_for alloc (of_lcov values) before after good none f fault = good_lcov
 good_fault_for alloc (of_rank values) before after good none f fault = good_rank alloc values before after good none f fault
 good_fault_for alloc (of_exclude values) before after good none f fault = good_points alloc change.Exclude values before after good none f fault
 good_fault_for alloc (of_restore values) before after good none f fault = good_points alloc change.Restore values before after good none f fault
+good_fault_for alloc (of_selfrun values) before after good none f fault = absurd good
 
 -- of good databases no fault but want of memory stands
 good_fault : (alloc : Global) (words : List (List ℕ)) (before after : Outside) → NoFaults before after → HasGoodDatabases words before → (f : CommandFault) → StandsInDatabases words before after f → f ≡ database.Memory
@@ -141,6 +155,7 @@ good_databases_end alloc words before middle after first second none (FilesFault
 good_databases_end alloc words before middle after first second none Memory stands good = inr refl
 good_databases_end alloc words before middle after first second none (Databases f) stands good =
     inr (ap database_status (good_fault alloc words before middle (λ counted. none (IsCounted-later before.faults middle.faults after.faults first.faults second.faults counted)) good f stands))
+good_databases_end alloc words before middle after first second none (Selfrun f) stands good = absurd (good_or_selfrun words before stands.0 good stands.1)
 
 -- ---- the cause of a database fault
 
@@ -210,6 +225,8 @@ database_cause words before after (Contradiction found) stands is = absurd (cc)
 database_cause words before after (FilesFault call file) stands is = absurd (cc)
 database_cause words before after Memory stands is = absurd (cc)
 database_cause words before after (Databases f) stands is = database_fault_cause words before after f stands is
+database_cause words before after (Selfrun selfrun_fault.Print) stands is = absurd (cc)
+database_cause words before after (Selfrun selfrun_fault.NoMemory) stands is = absurd (cc)
 
 -- ---- the cause of a fault of files
 
@@ -290,6 +307,8 @@ files_fault_cause words before after (Contradiction found) stands is = absurd (c
 files_fault_cause words before after (FilesFault call file) stands is = score_call words before after stands.0 call file.now stands.1 stands.2.0 stands.2.1
 files_fault_cause words before after Memory stands is = absurd (cc)
 files_fault_cause words before after (Databases f) stands is = databases_files_cause words before after f stands is
+files_fault_cause words before after (Selfrun selfrun_fault.Print) stands is = inl stands.2
+files_fault_cause words before after (Selfrun selfrun_fault.NoMemory) stands is = absurd (cc)
 
 misses_later : (words : List (List ℕ)) (before : Outside) (files : Option HostFiles) (a b c : ℕ) → a ≤ b → b ≤ c → MatchOption files (IsCounted a b) (λ files. (name : List ℕ) × (IsInput words name ⊎ IsIncluded words before name) × (files name ≡ None)) → MatchOption files (IsCounted a c) (λ files. (name : List ℕ) × (IsInput words name ⊎ IsIncluded words before name) × (files name ≡ None))
 misses_later words before None a b c first second missing = IsCounted-later a b c first second missing
@@ -386,3 +405,5 @@ module _ (before middle after : Outside) (first : CountsUp before middle) (secon
   stands_later words (FilesFault call file) stands = (stands.0, stands.1, (stands.2.0, call_later call file.now stands.2.1, stands.2.2, stands.2.3))
   stands_later words Memory stands = stands
   stands_later words (Databases f) stands = databases_stand_later words f stands
+  stands_later words (Selfrun selfrun_fault.Print) stands = (stands.0, stands.1, counted_later stands.2)
+  stands_later words (Selfrun selfrun_fault.NoMemory) stands = stands

@@ -8,7 +8,7 @@ use Rattle.covered_cli.specs.Drawing.{IsNoMachineFor, drawing_at}
 use Rattle.covered_cli.specs.Fault.{IsDrawingFault, IsDrawingFaultOf}
 use Rattle.covered_cli.specs.ScoreMachines.{AreAllDrawn, AreDrawnFor, ArePlaced, IsDrawnFor, IsPlacedFor}
 use Rattle.covered_cli.specs.declared.fault.Fault.{Fault}
-use Rattle.covered_cli.specs.declared.fault.Fault.TheVariants.{Usage, Source, NoMachine, Points as PointsFault, Dump, Contradiction, Files as FilesFault, Memory, Databases}
+use Rattle.covered_cli.specs.declared.fault.Fault.TheVariants.{Usage, Source, NoMachine, Points as PointsFault, Dump, Contradiction, Files as FilesFault, Memory, Databases, Selfrun}
 
 in_either : {A : Type 0} (x : A) (xs ys : List A) → In x (xs ++ ys) → In x xs ⊎ In x ys
 in_either x [] ys h = inr h
@@ -90,6 +90,7 @@ module _ (d : Design) where
   first_fault xs rest m (Contradiction found) placed is = absurd is
   first_fault xs rest m (FilesFault call file) placed is = absurd is
   first_fault xs rest m (Databases f) placed is = absurd is
+  first_fault xs rest m (Selfrun f) placed is = absurd is
 
   -- before the first value
   pub drawn_start : (all : List DrawingNames) (old : List Drawn) → HasDrawn d all all old old

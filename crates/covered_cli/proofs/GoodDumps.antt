@@ -1,8 +1,6 @@
 -- A dump that binds its design is not refused, and one that a run shows is not contradicted.
-use Rattle.std.proofs.Common.{◌≡◌, inl, inr, ℕ, ◌<◌, ◌≤◌, is_some, List, [], ◌∷◌, ◌++◌, length, Option, None, Some, sym, ap, subst, ◌∙◌, append_assoc, arith}
+use Rattle.std.proofs.Common.{◌≡◌, inl, inr, ℕ, ◌<◌, List, [], ◌∷◌, ◌++◌, Option, None, Some, sym, ap, subst, ◌∙◌, append_assoc}
 use Rattle.std.proofs.lemmas.Bool.{false≢true}
-use Rattle.std.proofs.lemmas.List.{length-append, length-map}
-use Rattle.std.specs.Prelude.{IfSome, IsSome}
 use Rattle.std.specs.List.{list_any}
 use Rattle.design_model.specs.Run.{Run}
 use Rattle.design_model.specs.Shows.{ShowsUpTo}
@@ -14,26 +12,24 @@ use Rattle.design_model.specs.declared.design.Instance.{Instance}
 use Rattle.design_model.specs.declared.design.Memory.{Memory}
 use Rattle.design_model.specs.declared.design.Signal.{Signal}
 use Rattle.design_model.specs.declared.tree.Process.{Process}
+use Rattle.dump_score.proofs.FirstValues.{lacks_none_of}
 use Rattle.dump_score.specs.dump_replay.Faults.{IsContradicted}
 use Rattle.event_machine.specs.Habit.{Habit}
 use Rattle.four_state.specs.Vector.{Vector}
 use Rattle.four_state.specs.declared.bit.Bit.{Bit}
 use Rattle.shown_dumps.proofs.Fronts.{front}
-use Rattle.shown_dumps.proofs.Ongoing.{first_stays}
-use Rattle.shown_dumps.proofs.Times.{times_are, times_in_append}
-use Rattle.shown_dumps.specs.Bound.{IsBound, first_value}
+use Rattle.shown_dumps.proofs.Split.{on_of_last}
+use Rattle.shown_dumps.specs.Bound.{HaveFirstValues, IsBound}
 use Rattle.shown_dumps.specs.Laws.{dump_with}
-use Rattle.shown_dumps.specs.Said.{times_in}
 use Rattle.shown_dumps.specs.Shown.{bound_dump, code_at, dump_of}
 use Rattle.signal_binding.specs.Binding.{codes_of}
 use Rattle.signal_binding.specs.Names.{stands_in}
 use Rattle.vcd_reader.proofs.FaultLaws.{dump_excludes, fault_excludes}
 use Rattle.vcd_reader.proofs.Growing.{dump_goes_on}
 use Rattle.vcd_reader.proofs.RisingTimes.{times_rise}
-use Rattle.vcd_reader.specs.Dump.{Dump, GoesOn, IsDump, SaysBody, steps_of}
+use Rattle.vcd_reader.specs.Dump.{Dump, GoesOn, IsDump, SaysBody, stretches_of}
 use Rattle.vcd_reader.specs.Reading.{Body}
 use Rattle.vcd_reader.specs.Times.{Rises}
-use Rattle.vcd_reader.specs.declared.entry.Entry.{Entry}
 use Rattle.vcd_reader.specs.declared.entry.Entry.TheVariants.{Time}
 use Rattle.vcd_reader.specs.declared.fault.DumpFault.TheVariants.{At}
 use Rattle.dump_score.specs.verdict_laws.Sound.{IsShownBy}
@@ -72,23 +68,6 @@ same_shown habit a b dump instance same run shown =
 
 -- ---- what is said of a dump
 
-some_or_none : {A : Type 0} (o : Option A) → IsSome o → o ≡ None → ⊥
-some_or_none o some none = false≢true (sym (ap is_some none) ∙ some)
-
-first_of : (o : Option ℕ) (code : ℕ) (P : ℕ → Type 0) → IfSome o P → o ≡ Some code → P code
-first_of None code P h e = absurd (cc)
-first_of (Some x) code P h e = let same : x ≡ code = cc in subst P same h
-
--- as many steps as times
-step_count : (entries : List Entry) → length (steps_of entries) ≡ length (times_in entries)
-step_count entries = sym (length-map (steps_of entries) (λ step. step.time)) ∙ ap length (times_are entries)
-
-more_steps : (entries more : List Entry) → 2 ≤ length (steps_of entries) → 2 ≤ length (steps_of (entries ++ more))
-more_steps entries more two =
-    let here : 2 ≤ length (times_in entries) = subst (λ n. 2 ≤ n) (step_count entries) two in
-    let all : 2 ≤ length (times_in entries ++ times_in more) = omega (arith, here, length-append (times_in entries) (times_in more)) in
-    subst (λ n. 2 ≤ n) (sym (step_count (entries ++ more))) (subst (λ ts. 2 ≤ length ts) (sym (times_in_append entries more)) all)
-
 module _ (design : Design) (dump : Dump) (instance text : List ℕ) (is : IsDump text dump) where
   goes_on : (b : Body) → SaysBody text b → GoesOn b is.b
   goes_on b says = dump_goes_on text b is.b says is.ends
@@ -108,12 +87,10 @@ module _ (design : Design) (dump : Dump) (instance text : List ℕ) (is : IsDump
       let some = refused.2 in
       let lacks = some.2 in
       let further = goes_on some.0 some.1 in
-      let steps : dump.steps ≡ steps_of (some.0.items ++ further.more) = is.steps ∙ ap steps_of further.items in
-      let code = subst (λ vars. code_at (codes_of design vars instance) s ≡ Some lacks.code) (sym (same_vars some.0 some.1)) lacks.bound in
-      let two : 2 ≤ length dump.steps = subst (λ ss. 2 ≤ length ss) (sym steps) (more_steps some.0.items further.more lacks.second) in
-      let early : 2 ≤ length (times_in some.0.items) = subst (λ n. 2 ≤ n) (step_count some.0.items) lacks.second in
-      let value = first_of _ lacks.code (λ code. IsSome (first_value dump.steps code)) (bound.first_values two s) code in
-      some_or_none _ value (ap (λ ss. first_value ss lacks.code) steps ∙ first_stays some.0.items further.more lacks.code early ∙ lacks.none)
+      let stretches : dump.stretches ≡ stretches_of (some.0.items ++ further.more) = is.stretches ∙ ap stretches_of further.items in
+      let have : HaveFirstValues (codes_of design dump.vars instance) (stretches_of (some.0.items ++ further.more)) = subst (HaveFirstValues (codes_of design dump.vars instance)) stretches bound.first_values in
+      let code : code_at (codes_of design dump.vars instance) s ≡ Some lacks.code = subst (λ vars. code_at (codes_of design vars instance) s ≡ Some lacks.code) (sym (same_vars some.0 some.1)) lacks.bound in
+      lacks_none_of (codes_of design dump.vars instance) some.0.items further.more s lacks.code have code lacks.second lacks.none
 
   -- a dump that a run shows, and what was read of it
   module _ (habit : Habit) (run : Run) (shown : IsShownBy (design_view design) habit (bound_dump design dump instance) run) (b : Body) (says : SaysBody text b) (s time : ℕ) (dumped : Vector) (computed : List (Option Bit))
@@ -130,14 +107,14 @@ module _ (design : Design) (dump : Dump) (instance text : List ℕ) (is : IsDump
 
     shows_whole : ShowsUpTo (design_view design) (dump_with (codes_of design b.vars instance) c.ends.front c.ends.next (goes_on b says).more) run time
     shows_whole =
-        subst (λ steps. ShowsUpTo (design_view design) (dump_of (codes_of design b.vars instance) steps) run time) (is.steps ∙ ap steps_of items)
-        (subst (λ vars. ShowsUpTo (design_view design) (dump_of (codes_of design vars instance) dump.steps) run time) (same_vars b says)
+        subst (λ stretches. ShowsUpTo (design_view design) (dump_of (codes_of design b.vars instance) stretches) run time) (is.stretches ∙ ap stretches_of items)
+        (subst (λ vars. ShowsUpTo (design_view design) (dump_of (codes_of design vars instance) dump.stretches) run time) (same_vars b says)
         (record { starts = shown.shows.starts; shows = λ t is_shown until. shown.shows.shows t is_shown }))
 
-    shows_read : ShowsUpTo (design_view design) (dump_of (codes_of design b.vars instance) (steps_of b.items)) run time
+    shows_read : ShowsUpTo (design_view design) (dump_of (codes_of design b.vars instance) (stretches_of b.items)) run time
     shows_read =
-        subst (λ es. ShowsUpTo (design_view design) (dump_of (codes_of design b.vars instance) (steps_of es)) run time) (sym c.ends.are)
-        (front (design_view design) (codes_of design b.vars instance) c.ends.front (goes_on b says).more c.ends.next rises run time earlier shows_whole)
+        subst (λ es. ShowsUpTo (design_view design) (dump_of (codes_of design b.vars instance) (stretches_of es)) run time) (sym c.ends.are)
+        (front (design_view design) (codes_of design b.vars instance) c.ends.front (goes_on b says).more c.ends.next (on_of_last c.ends.front c.ends.last c.ends.is_last) rises run time earlier shows_whole)
 
     none_contradicts : ⊥
     none_contradicts = c.refuted.contradicted run (record { is_run = shown.is_run; shows = shows_read })

@@ -11,5 +11,7 @@ pub mod DrawnMachines
 pub mod Scoring
 pub mod Leaving
 pub mod Untouched
+pub mod Selfruns
+pub mod SelfrunGood
 pub mod Refusing
 pub mod WordLists

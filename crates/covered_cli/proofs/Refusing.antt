@@ -56,6 +56,7 @@ module _ (score : ScoreValues) (design : Design) (before after : Outside) where
   bind_refused bind_fault.NoMemory (fault.Contradiction x) same is = absurd same
   bind_refused bind_fault.NoMemory (fault.Files call file) same is = absurd same
   bind_refused bind_fault.NoMemory (fault.Databases g) same is = absurd same
+  bind_refused bind_fault.NoMemory (fault.Selfrun g) same is = absurd same
   bind_refused bind_fault.NoInstance (fault.Usage usage) same is = absurd same
   bind_refused bind_fault.NoInstance (fault.Source g) same is = absurd same
   bind_refused bind_fault.NoInstance (fault.NoMachine name) same is = absurd same
@@ -63,6 +64,7 @@ module _ (score : ScoreValues) (design : Design) (before after : Outside) where
   bind_refused bind_fault.NoInstance (fault.Contradiction x) same is = absurd same
   bind_refused bind_fault.NoInstance (fault.Files call file) same is = absurd same
   bind_refused bind_fault.NoInstance (fault.Databases g) same is = absurd same
+  bind_refused bind_fault.NoInstance (fault.Selfrun g) same is = absurd same
 
   -- a fault of the replay
   pub replay_refused : (f : ReplayFault) (result : Fault) → IsReplayRefusal (design_view design) f result → IsScoreFault score.dump before after (habit_in score) design score.instance (score_fault.Replay f) → IsScoringFault score design before after result
@@ -81,9 +83,11 @@ module _ (score : ScoreValues) (design : Design) (before after : Outside) where
   replay_refused (replay_fault.NoBaseline s) (fault.Points p) same is = absurd same
   replay_refused (replay_fault.NoBaseline s) (fault.Files call file) same is = absurd same
   replay_refused (replay_fault.NoBaseline s) (fault.Databases g) same is = absurd same
+  replay_refused (replay_fault.NoBaseline s) (fault.Selfrun g) same is = absurd same
   replay_refused (replay_fault.Contradiction s time dumped computed) (fault.Usage usage) same is = absurd same
   replay_refused (replay_fault.Contradiction s time dumped computed) (fault.Source g) same is = absurd same
   replay_refused (replay_fault.Contradiction s time dumped computed) (fault.NoMachine name) same is = absurd same
   replay_refused (replay_fault.Contradiction s time dumped computed) (fault.Points p) same is = absurd same
   replay_refused (replay_fault.Contradiction s time dumped computed) (fault.Files call file) same is = absurd same
   replay_refused (replay_fault.Contradiction s time dumped computed) (fault.Databases g) same is = absurd same
+  replay_refused (replay_fault.Contradiction s time dumped computed) (fault.Selfrun g) same is = absurd same

@@ -1,15 +1,15 @@
 -- From what was read to what a score says.
 use Rattle.std.proofs.Common.{◌≡◌, ℕ, List, Option, None, Some, Ok, Err, sym, subst, ◌∙◌}
-use Rattle.std.specs.Prelude.{IfErr, IfSome, Result, OnOk}
+use Rattle.std.specs.Prelude.{IfErr, IfOk, IfSome, Result, OnOk}
 use Rattle.command_line.specs.Command.{IsCommand, command_values}
 use Rattle.command_line.specs.CommandWords.{ScoreValues}
 use Rattle.command_line.specs.declared.command.Command.{Command}
 use Rattle.cov_host.specs.Outside.{Outside, Files, KeepsFiles, SameFiles, Told, HasFile}
 use Rattle.covered_cli.specs.Headline.{KeepsOthers}
 use Rattle.covered_cli.specs.Fault.{IsDesignFault, IsDrawingFault, IsEarly, IsPointsFault, IsReadingFault, IsScoringFault, IsWritingFault, StandsIn}
-use Rattle.covered_cli.specs.Scoring.{HasDesign, HasDump, HasSomeDesign, HasSomeScore, IsContradictedText, IsDone, IsDoneIn, IsDoneWork, IsDumpRefusal, IsScoredText, names_of}
+use Rattle.covered_cli.specs.Scoring.{HasDesign, HasDump, HasSomeDesign, HasSomeScore, IsContradictedText, IsDone, IsDoneIn, IsDoneWork, IsDumpRefusal, IsScoredText, IsTableIn, names_of}
 use Rattle.covered_cli.specs.declared.fault.Fault.{Fault}
-use Rattle.covered_cli.specs.declared.fault.Fault.TheVariants.{Usage, Source, NoMachine, Points as PointsFault, Dump, Contradiction, Files as FilesFault, Memory, Databases}
+use Rattle.covered_cli.specs.declared.fault.Fault.TheVariants.{Usage, Source, NoMachine, Points as PointsFault, Dump, Contradiction, Files as FilesFault, Memory, Databases, Selfrun}
 use Rattle.cover_points.specs.declared.listing.Points.{Points}
 use Rattle.design_model.specs.View.{design_view}
 use Rattle.design_model.specs.declared.design.Design.{Design}
@@ -47,6 +47,7 @@ design_stands score before after (Contradiction found) is = absurd is
 design_stands score before after (FilesFault call file) is = absurd is
 design_stands score before after Memory is = tt
 design_stands score before after (Databases f) is = absurd is
+design_stands score before after (Selfrun f) is = absurd is
 
 -- the design has all points that were listed
 abbrev pub has_listed : (score : ScoreValues) (before : Outside) (sources : List SourceText) (design : Design) (machines : StateMachines) (points : Points) → AreMachinesOf score (design_view design) machines → HasSources (sources_in score) before sources → StandFor sources (sources_in score).defines score.top design → AreAllPoints (design_view design) machines points → HasDesign score before sources design
@@ -63,6 +64,7 @@ points_stand score before after sources design machines are gathered stands (Con
 points_stand score before after sources design machines are gathered stands (FilesFault call file) is = absurd is
 points_stand score before after sources design machines are gathered stands Memory is = absurd is
 points_stand score before after sources design machines are gathered stands (Databases f) is = absurd is
+points_stand score before after sources design machines are gathered stands (Selfrun f) is = absurd is
 
 -- a fault of a machine that is drawn stands
 pub drawing_stands : (score : ScoreValues) (before after : Outside) (sources : List SourceText) (design : Design) → HasSources (sources_in score) before sources → StandFor sources (sources_in score).defines score.top design → (fault : Fault) → IsDrawingFault (design_view design) score.drawings fault → StandsIn score before after fault
@@ -75,6 +77,7 @@ drawing_stands score before after sources design gathered stands (Contradiction 
 drawing_stands score before after sources design gathered stands (FilesFault call file) is = absurd is
 drawing_stands score before after sources design gathered stands Memory is = tt
 drawing_stands score before after sources design gathered stands (Databases f) is = absurd is
+drawing_stands score before after sources design gathered stands (Selfrun f) is = absurd is
 
 -- a fault of a file stands
 reading_stands : (score : ScoreValues) (before middle after : Outside) → HasSomeDesign score before → KeepsFiles before middle → CountsUp before middle → CountsUp middle after → (fault : Fault) → IsReadingFault score.dump middle after fault → StandsIn score before after fault
@@ -91,6 +94,7 @@ reading_stands score before middle after has kept first second (FilesFault Write
 reading_stands score before middle after has kept first second (FilesFault CloseWrite file) is = absurd is
 reading_stands score before middle after has kept first second Memory is = tt
 reading_stands score before middle after has kept first second (Databases f) is = absurd is
+reading_stands score before middle after has kept first second (Selfrun f) is = absurd is
 
 -- what holds of the design and of the dump that was read holds of those of the command
 has_dump : (score : ScoreValues) (sources : List SourceText) (design : Design) (before middle : Outside) (P : Design → List ℕ → Type 0) → HasDesign score before sources design → KeepsFiles before middle → (text : List ℕ) × IsFile middle score.dump text × P design text → HasDump score before P
@@ -114,6 +118,7 @@ scoring_stands score sources design before middle after has kept first second (S
 scoring_stands score sources design before middle after has kept first second (FilesFault call file) is = reading_stands score before middle after (sources, design, has) kept first second (FilesFault call file) is
 scoring_stands score sources design before middle after has kept first second Memory is = tt
 scoring_stands score sources design before middle after has kept first second (Databases f) is = absurd is
+scoring_stands score sources design before middle after has kept first second (Selfrun f) is = absurd is
 
 written_since : (name text : List ℕ) (before middle after : Option Files) → Told SameFiles before middle → Told (HasFile name text) middle after → Told (HasFile name text) before after
 written_since name text None None None same written = tt
@@ -123,29 +128,36 @@ written_since name text (Some before) None after same written = absurd same
 written_since name text (Some before) (Some middle) None same written = absurd written
 written_since name text (Some before) (Some middle) (Some after) same written = record { named = written.named; others = λ other apart. written.others other apart ∙ same other }
 
--- what was read and scored is the text that the command asks for
-pub text_is_scored : (score : ScoreValues) (sources : List SourceText) (names : List (List ℕ)) (text : List ℕ) (design : Design) (db : Db) (before middle : Outside) (has : HasDesign score before sources design) → names ≡ names_of sources → KeepsFiles before middle
-    → IsScoreOfFile score.dump middle (habit_in score) design has.machines names score.instance db → text ≡ text_of db → IsScoredText score before text
-text_is_scored score sources names text design db before middle has are_names kept scored is_text = record {
+-- what was read and scored is the table of the command
+pub is_table : (score : ScoreValues) (sources : List SourceText) (names : List (List ℕ)) (design : Design) (db : Db) (before middle : Outside) (has : HasDesign score before sources design) → names ≡ names_of sources → KeepsFiles before middle
+    → IsScoreOfFile score.dump middle (habit_in score) design has.machines names score.instance db → IsTableIn score before db
+is_table score sources names design db before middle has are_names kept scored = record {
   sources = sources;
-  dump = scored.text;
+  text = scored.text;
   design = design;
+  dump = scored.dump;
   has_design = has;
   dump_is = file_as_before score.dump scored.text before.files middle.files kept scored.is;
+  is_dump = scored.is_dump;
   scores = record {
-    dump = scored.dump;
-    db = db;
-    is_dump = scored.is_dump;
-    scores = record {
-      accepted = record { bound = scored.score.bound; forced = scored.score.forced };
-      listed = record { table = scored.score.table; points = scored.score.listed };
-      sound = scored.score.sound;
-      reasoned = scored.score.reasoned;
-      head = subst (λ ns. HasHead (design_view design) ns db) are_names scored.score.head;
-      windows = scored.score.windows;
-    };
-    is_text = is_text;
+    accepted = record { bound = scored.score.bound; forced = scored.score.forced };
+    listed = record { table = scored.score.table; points = scored.score.listed };
+    sound = scored.score.sound;
+    reasoned = scored.score.reasoned;
+    head = subst (λ ns. HasHead (design_view design) ns db) are_names scored.score.head;
+    windows = scored.score.windows;
   };
+}
+
+-- its text is the one that the command asks for
+pub table_is_scored : (score : ScoreValues) (before : Outside) (db : Db) (text : List ℕ) → IsTableIn score before db → text ≡ text_of db → IsScoredText score before text
+table_is_scored score before db text table is_text = record {
+  sources = table.sources;
+  dump = table.text;
+  design = table.design;
+  has_design = table.has_design;
+  dump_is = table.dump_is;
+  scores = record { dump = table.dump; db = db; is_dump = table.is_dump; scores = table.scores; is_text = is_text };
 }
 
 -- where it was written, what the command asks for was done
@@ -159,6 +171,10 @@ command_is_done words command before after is done = (command_values command, is
 pub OnOk-map : {T E P Q : Type 0} (result : Result T E) → (P → Q) → OnOk result P → OnOk result Q
 OnOk-map (Ok value) step holds = step holds
 OnOk-map (Err fault) step holds = tt
+
+pub IfOk-map : {T E : Type 0} {P Q : T → Type 0} (result : Result T E) → ((value : T) → P value → Q value) → IfOk result P → IfOk result Q
+IfOk-map (Ok value) step holds = step value holds
+IfOk-map (Err fault) step holds = tt
 
 pub IfErr-map : {T E : Type 0} {P Q : E → Type 0} (result : Result T E) → ((fault : E) → P fault → Q fault) → IfErr result P → IfErr result Q
 IfErr-map (Ok value) step holds = tt
@@ -183,6 +199,7 @@ writing_stands score before later after has kept first second (FilesFault Write 
 writing_stands score before later after has kept first second (FilesFault CloseWrite file) is = (is.0, refused_earlier before later after first second kept CloseWrite file.now is.1, some_design score before has, has)
 writing_stands score before later after has kept first second Memory is = tt
 writing_stands score before later after has kept first second (Databases f) is = absurd is
+writing_stands score before later after has kept first second (Selfrun f) is = absurd is
 
 -- a fault of writing comes when the output was opened, or might have been
 pub writing_is_late : (name : List ℕ) (before after : Outside) (fault : Fault) → IsWritingFault name before after fault → IsEarly fault → ⊥
@@ -199,6 +216,7 @@ writing_is_late name before after (FilesFault Write file) is early = early
 writing_is_late name before after (FilesFault CloseWrite file) is early = early
 writing_is_late name before after Memory is early = early
 writing_is_late name before after (Databases f) is early = is
+writing_is_late name before after (Selfrun f) is early = is
 
 -- files that are all as before are so but for one
 pub others_kept : (name : List ℕ) (before after : Option Files) → Told SameFiles before after → Told (KeepsOthers name) before after

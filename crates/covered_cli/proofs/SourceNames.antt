@@ -9,7 +9,7 @@ use Rattle.cov_host.specs.Outside.{Outside}
 use Rattle.command_line.specs.Command.{IsCommand}
 use Rattle.command_line.specs.CommandWords.{HaveForms, ScoreValues, score_values}
 use Rattle.command_line.specs.declared.command.Command.{Command}
-use Rattle.command_line.specs.declared.command.Command.TheVariants.{Score, Merge, Report, Lcov, Rank, Exclude, Restore}
+use Rattle.command_line.specs.declared.command.Command.TheVariants.{Score, Merge, Report, Lcov, Rank, Exclude, Restore, Selfrun}
 use Rattle.command_line.specs.ValueForm.{is_file_name as is_file_word}
 use Rattle.command_line.proofs.ScoreForms.{score_forms}
 use Rattle.coverage_db.specs.Table.{is_file_name}
@@ -120,3 +120,4 @@ forms_of_command words (Lcov lcov) is = tt
 forms_of_command words (Rank rank) is = tt
 forms_of_command words (Exclude points) is = tt
 forms_of_command words (Restore points) is = tt
+forms_of_command words (Selfrun values) is = record { some = is.steps.some; within = is.steps.within }

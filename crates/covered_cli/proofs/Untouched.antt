@@ -1,7 +1,7 @@
 -- What a score that was done leaves as it was, and that no fault has status 0.
 use Rattle.std.proofs.Common.{◌≡◌, ℕ, List, inl, inr}
 use Rattle.command_line.proofs.OneCommand.{one_of_all}
-use Rattle.command_line.specs.Command.{score as of_score, report as of_report, rank as of_rank}
+use Rattle.command_line.specs.Command.{score as of_score, report as of_report, rank as of_rank, selfrun as of_selfrun}
 use Rattle.command_line.specs.CommandWords.{IsScore, ScoreValues}
 use Rattle.cov_host.specs.Outside.{HasFile, Outside, Told}
 use Rattle.whole_files.proofs.EffectLemmas.{Told-map}
@@ -12,7 +12,8 @@ use Rattle.covered_cli.specs.Headline.{IsUntouched}
 use Rattle.covered_cli.specs.PointsMessage.{points_status}
 use Rattle.covered_cli.specs.SourceMessage.{source_status}
 use Rattle.covered_cli.specs.declared.fault.Fault.{Fault}
-use Rattle.covered_cli.specs.declared.fault.Fault.TheVariants.{Usage, Source, NoMachine, Points as PointsFault, Dump, Contradiction, Files as FilesFault, Memory, Databases}
+use Rattle.covered_cli.specs.declared.fault.Fault.TheVariants.{Usage, Source, NoMachine, Points as PointsFault, Dump, Contradiction, Files as FilesFault, Memory, Databases, Selfrun}
+use Rattle.covered_cli.specs.declared.selfrun_fault.SelfrunFault.TheVariants as selfrun_fault
 use Rattle.covered_cli.specs.declared.status.Status.TheVariants as status
 use Rattle.database_commands.specs.declared.fault.CommandFault.{CommandFault}
 use Rattle.database_commands.specs.declared.fault.CommandFault.TheVariants as database
@@ -24,7 +25,8 @@ use Rattle.source_design.specs.declared.fault.SourceFault.TheVariants as source_
 -- words of a score ask for no text that is printed
 pub no_text : (words : List (List ℕ)) (score : ScoreValues) → IsScore words score → PrintsText words → ⊥
 no_text words score is (inl report) = let e = one_of_all words (of_score score) (of_report report.0) is report.1 in cc
-no_text words score is (inr ranking) = let e = one_of_all words (of_score score) (of_rank ranking.0) is ranking.1 in cc
+no_text words score is (inr (inl ranking)) = let e = one_of_all words (of_score score) (of_rank ranking.0) is ranking.1 in cc
+no_text words score is (inr (inr selfrun)) = let e = one_of_all words (of_score score) (of_selfrun selfrun.0) is selfrun.1 in cc
 
 -- where its output alone was written, all else is as it was
 pub all_else : (output text : List ℕ) (before after : Outside) → Told (HasFile output text) before.files after.files → after.printed ≡ before.printed → after.warned ≡ before.warned → IsUntouched output before after
@@ -62,3 +64,5 @@ fault_not_done (Contradiction found) same = cc
 fault_not_done (FilesFault call file) same = cc
 fault_not_done Memory same = cc
 fault_not_done (Databases f) same = databases_not_done f same
+fault_not_done (Selfrun selfrun_fault.Print) same = cc
+fault_not_done (Selfrun selfrun_fault.NoMemory) same = cc

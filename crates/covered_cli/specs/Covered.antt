@@ -1,12 +1,14 @@
 -- What a call of the program leaves outside, and why it ends with a status above 0.
 use Rattle.std.specs.Prelude.{◌≡◌, ◌⊎◌, ℕ, List, [], ◌∷◌, Contains, Option, Some, None, MatchOption}
-use Rattle.command_line.specs.Command.{AreWordsOf, CommandValues, score, merge, report, lcov, rank, exclude, restore}
+use Rattle.command_line.specs.Command.{AreWordsOf, CommandValues, score, merge, report, lcov, rank, exclude, restore, selfrun}
 use Rattle.command_line.specs.CommandWords.{IsScore, ScoreValues}
 use Rattle.command_line.specs.DatabaseWords.{IsMerge, IsReport, MergeValues, ReportValues}
 use Rattle.command_line.specs.LcovWords.{IsLcov, LcovValues}
 use Rattle.command_line.specs.PointWords.{PointValues}
 use Rattle.command_line.specs.RankWords.{IsRank, RankValues}
+use Rattle.command_line.specs.SelfrunWords.{IsSelfrun}
 use Rattle.command_line.specs.UsageFault.{HasUsageFault}
+use Rattle.command_line.specs.declared.selfrun_words.SelfrunWords.{SelfrunWords}
 use Rattle.command_line.specs.declared.usage_fault.UsageFault.{UsageFault}
 use Rattle.cov_host.specs.Outside.{Outside, Files, IsCounted}
 use Rattle.coverage_db.specs.declared.fault.DbKind.{DbKind}
@@ -24,6 +26,7 @@ use Rattle.covered_cli.specs.Effects.{WarnsLine}
 use Rattle.covered_cli.specs.Fault.{IsEarly, Stands, line_of, status_of}
 use Rattle.covered_cli.specs.ScoreSources.{sources_in}
 use Rattle.covered_cli.specs.Scoring.{IsContradictedDump, IsTextOf}
+use Rattle.covered_cli.specs.Selfrun.{IsSelfrunIn}
 use Rattle.covered_cli.specs.declared.contradiction.Contradiction.{Contradiction}
 use Rattle.covered_cli.specs.declared.fault.Fault.{Fault}
 use Rattle.covered_cli.specs.declared.status.Status.{Status}
@@ -47,6 +50,7 @@ output_in (lcov values) = Some values.output
 output_in (rank values) = None
 output_in (exclude values) = Some values.output
 output_in (restore values) = Some values.output
+output_in (selfrun values) = None
 
 -- the files that a command reads
 abbrev pub inputs_in : CommandValues → List (List ℕ)
@@ -57,6 +61,7 @@ inputs_in (lcov values) = values.file ∷ []
 inputs_in (rank values) = ranked_files values
 inputs_in (exclude values) = values.file ∷ []
 inputs_in (restore values) = values.file ∷ []
+inputs_in (selfrun values) = []
 
 -- the words name the file for the output
 abbrev pub IsOutput : List (List ℕ) → List ℕ → Type 0
@@ -78,9 +83,17 @@ PrintsReport words = (values : ReportValues) × IsReport words values × (values
 abbrev pub PrintsRanking : List (List ℕ) → Type 0
 PrintsRanking words = (values : RankValues) × IsRank words values
 
+-- the words are a selfrun
+abbrev pub IsSomeSelfrun : List (List ℕ) → Type 0
+IsSomeSelfrun words = (values : SelfrunWords) × IsSelfrun words values
+
 -- the words ask for a text that is printed
 abbrev pub PrintsText : List (List ℕ) → Type 0
-PrintsText words = PrintsReport words ⊎ PrintsRanking words
+PrintsText words = PrintsReport words ⊎ PrintsRanking words ⊎ IsSomeSelfrun words
+
+-- where the words are a selfrun, its counts were printed
+abbrev pub PrintsCounts : List (List ℕ) → Outside → Outside → Type 0
+PrintsCounts words before after = (values : SelfrunWords) → IsSelfrun words values → IsSelfrunIn values before after
 
 -- the status is one that comes before the output is opened
 abbrev pub HasEarlyStatus : Status → Type 0

@@ -7,9 +7,11 @@ use Rattle.command_line.specs.DatabaseWords.{IsMerge, IsReport, MergeValues, Rep
 use Rattle.command_line.specs.LcovWords.{IsLcov, LcovValues, lcov_values}
 use Rattle.command_line.specs.PointWords.{PointValues, point_values}
 use Rattle.command_line.specs.RankWords.{IsRank, RankValues, rank_values}
+use Rattle.command_line.specs.SelfrunWords.{IsSelfrun}
 use Rattle.command_line.specs.UsageFault.{HasUsageFault, usage_text}
 use Rattle.command_line.specs.declared.command.Command.{Command}
-use Rattle.command_line.specs.declared.command.Command.TheVariants.{Score, Merge, Report, Lcov, Rank, Exclude, Restore}
+use Rattle.command_line.specs.declared.command.Command.TheVariants.{Score, Merge, Report, Lcov, Rank, Exclude, Restore, Selfrun}
+use Rattle.command_line.specs.declared.selfrun_words.SelfrunWords.{SelfrunWords}
 use Rattle.cov_host.specs.Outside.{Outside}
 use Rattle.database_commands.specs.Faults.{IsEarly as IsEarlyDatabase, IsMergeFault}
 use Rattle.database_commands.specs.Excluding.{IsPointsFault as IsChangeFault}
@@ -38,11 +40,14 @@ use Rattle.covered_cli.specs.PointsMessage.{machine_line, points_line, points_st
 use Rattle.covered_cli.specs.ScoreMachines.{habit_in}
 use Rattle.covered_cli.specs.ScoreSources.{sources_in}
 use Rattle.covered_cli.specs.Scoring.{HasNoMachine, HasPointsFault, HasSomeDesign, HasSomeScore, IsContradictedDump, IsContradictedText, IsDumpRefusal, IsRefusedDump}
+use Rattle.covered_cli.specs.Selfrun.{AreSteps, IsSelfrunFault}
 use Rattle.covered_cli.specs.SourceMessage.{source_line, source_status}
 use Rattle.covered_cli.specs.DumpRefusal.{refusal_line}
 use Rattle.source_design.specs.Reading.{IsSourceFault}
 use Rattle.covered_cli.specs.declared.fault.Fault.{Fault}
 use Rattle.covered_cli.specs.declared.fault.Fault.TheVariants as fault
+use Rattle.covered_cli.specs.declared.selfrun_fault.SelfrunFault.{SelfrunFault}
+use Rattle.covered_cli.specs.declared.selfrun_fault.SelfrunFault.TheVariants as selfrun_fault
 use Rattle.covered_cli.specs.declared.status.Status.{Status}
 use Rattle.covered_cli.specs.declared.status.Status.TheVariants as status
 
@@ -57,6 +62,8 @@ status_of (fault.Contradiction x) = status.Contradiction
 status_of (fault.Files call file) = status.Files
 status_of fault.Memory = status.Memory
 status_of (fault.Databases f) = database_status f
+status_of (fault.Selfrun selfrun_fault.Print) = status.Files
+status_of (fault.Selfrun selfrun_fault.NoMemory) = status.Memory
 
 -- the line that is warned
 abbrev pub line_of : Fault → List ℕ
@@ -69,6 +76,8 @@ line_of (fault.Contradiction x) = contradiction_line x
 line_of (fault.Files call file) = codes "covered: files: " ++ call_name call ++ codes " " ++ file.now ++ codes "\n"
 line_of fault.Memory = codes "covered: memory\n"
 line_of (fault.Databases f) = database_line f
+line_of (fault.Selfrun selfrun_fault.Print) = codes "covered: files: print -\n"
+line_of (fault.Selfrun selfrun_fault.NoMemory) = codes "covered: memory\n"
 
 -- the command names the file for this call: the dump for reading, and the output for writing
 abbrev pub NamesFile : ScoreValues → Call → List ℕ → Type 0
@@ -94,6 +103,7 @@ StandsIn score before after (fault.Contradiction x) = IsContradictedDump score b
 StandsIn score before after (fault.Files call file) = NamesFile score call file.now × IsRefused call file.now before after × HasSomeDesign score before × IsScoredBefore call score before
 StandsIn score before after fault.Memory = Unit {0}
 StandsIn score before after (fault.Databases f) = ⊥
+StandsIn score before after (fault.Selfrun f) = ⊥
 
 -- the file that the command writes, if it writes one
 abbrev pub output_of : Command → Option (List ℕ)
@@ -104,8 +114,9 @@ output_of (Lcov lcov) = Some lcov.output.now
 output_of (Rank rank) = None
 output_of (Exclude points) = Some points.output.now
 output_of (Restore points) = Some points.output.now
+output_of (Selfrun values) = None
 
--- the values of a score have their forms
+-- the values of a score have their forms, and the steps of a selfrun are some
 abbrev pub HasForms : Command → Type 0
 HasForms (Score score) = HaveForms (score_values score)
 HasForms (Merge merge) = Unit {0}
@@ -114,11 +125,17 @@ HasForms (Lcov lcov) = Unit {0}
 HasForms (Rank rank) = Unit {0}
 HasForms (Exclude points) = Unit {0}
 HasForms (Restore points) = Unit {0}
+HasForms (Selfrun values) = AreSteps values
 
 -- the fault is one of a command over databases, of which this holds
 abbrev pub IsDatabaseFault : (CommandFault → Type 0) → Fault → Type 0
 IsDatabaseFault P (fault.Databases f) = P f
 IsDatabaseFault P other = ⊥
+
+-- the counts of a selfrun were not printed
+abbrev pub IsPrintingFault : Outside → Outside → Fault → Type 0
+IsPrintingFault before after (fault.Selfrun f) = IsSelfrunFault before after f
+IsPrintingFault before after other = ⊥
 
 -- this command has the fault
 abbrev pub StandsInWork : Command → Outside → Outside → Fault → Type 0
@@ -129,6 +146,7 @@ StandsInWork (Lcov lcov) before after fault = IsDatabaseFault (IsLcovFault (lcov
 StandsInWork (Rank rank) before after fault = IsDatabaseFault (IsRankFault (rank_values rank) before after) fault
 StandsInWork (Exclude points) before after fault = IsDatabaseFault (IsChangeFault change.Exclude (point_values points) before after) fault
 StandsInWork (Restore points) before after fault = IsDatabaseFault (IsChangeFault change.Restore (point_values points) before after) fault
+StandsInWork (Selfrun values) before after fault = IsPrintingFault before after fault
 
 -- the words are a command over databases that has the fault
 abbrev pub StandsInDatabases : List (List ℕ) → Outside → Outside → CommandFault → Type 0
@@ -139,10 +157,15 @@ StandsInDatabases words before after f =
     ⊎ ((rank : RankValues) × IsRank words rank × IsRankFault rank before after f)
     ⊎ ((kind : Change) × (points : PointValues) × AreWordsOf (points_command kind points) words × IsChangeFault kind points before after f)
 
+-- the words are a selfrun that has the fault
+abbrev pub StandsInSelfrun : List (List ℕ) → Outside → Outside → SelfrunFault → Type 0
+StandsInSelfrun words before after f = (values : SelfrunWords) × IsSelfrun words values × IsSelfrunFault before after f
+
 -- a call of the program with these words has the fault between two outsides
 abbrev pub Stands : List (List ℕ) → Outside → Outside → Fault → Type 0
 Stands words before after (fault.Usage usage) = HasUsageFault words usage
 Stands words before after (fault.Databases f) = StandsInDatabases words before after f
+Stands words before after (fault.Selfrun f) = StandsInSelfrun words before after f
 Stands words before after other = (score : ScoreValues) × IsScore words score × StandsIn score before after other
 
 -- the fault comes before the output is opened
@@ -152,6 +175,7 @@ IsEarly (fault.Files Write file) = ⊥
 IsEarly (fault.Files CloseWrite file) = ⊥
 IsEarly fault.Memory = ⊥
 IsEarly (fault.Databases f) = IsEarlyDatabase f
+IsEarly (fault.Selfrun f) = ⊥
 IsEarly other = Unit {0}
 
 -- a file was not read

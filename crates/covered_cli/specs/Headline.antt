@@ -36,7 +36,7 @@ scored_of habit design machines dump instance table = record { design = design; 
 abbrev pub HoldsByDump : Scored → (BoundDump → Type 0) → Type 0
 HoldsByDump x claim = ByLastRounds (design_view x.design) (bound_dump x.design x.dump x.instance) claim
 
--- accepted: the dump has the instance and a first value of each signal that has a variable, and no forced value differs from its own
+-- accepted: the dump has the instance and in each stretch a first value of each signal that has a variable, and no forced value differs from its own
 pub record IsAccepted (x : Scored) : Type 0 where
   pub bound : IsBound x.design x.dump x.instance
   pub forced : HoldsByDump x (AreForced x.habit (design_view x.design))

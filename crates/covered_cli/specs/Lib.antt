@@ -7,6 +7,8 @@ pub mod Databases
 pub mod Headline
 pub mod PointCommands
 pub mod Scoring
+pub mod Selfrun
+pub mod SelfrunLaws
 pub mod Refusing
 pub mod Fault
 pub mod Status

@@ -2,7 +2,7 @@
 use Rattle.std.specs.Prelude.{◌≡◌, ℕ, false, List, map}
 use Rattle.std.specs.List.{list_any}
 use Rattle.command_line.specs.CommandWords.{IsScore, ScoreValues}
-use Rattle.command_line.specs.Command.{AreWordsOf, CommandValues, score as of_score, merge as of_merge, report as of_report, lcov as of_lcov, rank as of_rank, exclude as of_exclude, restore as of_restore, command_values}
+use Rattle.command_line.specs.Command.{AreWordsOf, CommandValues, score as of_score, merge as of_merge, report as of_report, lcov as of_lcov, rank as of_rank, exclude as of_exclude, restore as of_restore, selfrun as of_selfrun, command_values}
 use Rattle.command_line.specs.declared.command.Command.{Command}
 use Rattle.cov_host.specs.Outside.{Outside, HasFile, Told}
 use Rattle.coverage_db.specs.Text.{text_of}
@@ -37,6 +37,7 @@ use Rattle.covered_cli.specs.Drawing.{IsNoMachineOf}
 use Rattle.covered_cli.specs.Headline.{IsAccepted, IsListed, IsReasonedScore, IsSoundScore, IsUntouched, Scored, scored_of}
 use Rattle.covered_cli.specs.ScoreMachines.{AreMachinesOf, habit_in}
 use Rattle.covered_cli.specs.ScoreSources.{sources_in}
+use Rattle.covered_cli.specs.Selfrun.{IsSelfrunIn, IsSelfrunText}
 use Rattle.covered_cli.specs.declared.contradiction.Contradiction.{Contradiction}
 use Rattle.covered_cli.specs.declared.dump_refusal.DumpRefusal.{DumpRefusal}
 use Rattle.covered_cli.specs.declared.dump_refusal.DumpRefusal.TheVariants as refusal
@@ -75,7 +76,7 @@ HasSomeDesign score before = (sources : List SourceText) × (design : Design) ×
 abbrev pub names_of : List SourceText → List (List ℕ)
 names_of sources = map (λ source. source.name) sources
 
--- the text is no dump that has the instance, and a first value of each signal that has a variable
+-- the text is no dump that has the instance, and in each stretch a first value of each signal that has a variable
 abbrev pub HasNoScore : Design → List ℕ → List ℕ → Type 0
 HasNoScore design instance text = (dump : Dump) → IsDump text dump → IsBound design dump instance → ⊥
 
@@ -86,7 +87,7 @@ pub record IsScoreOf (x : Scored) (names : List (List ℕ)) : Type 0 where
   pub sound : IsSoundScore x
   pub reasoned : IsReasonedScore x
   pub head : HasHead (design_view x.design) names x.table
-  pub windows : x.table.windows ≡ windows_of (times_of x.dump.steps)
+  pub windows : x.table.windows ≡ windows_of (map times_of x.dump.stretches)
 
 -- the text is that of a table of the design under the dump of this text
 pub record IsScoreText (habit : Habit) (design : Design) (machines : StateMachines) (names : List (List ℕ)) (dump_text instance text : List ℕ) : Type 0 where
@@ -127,6 +128,17 @@ IsRefusedDump score before refusal = HasDump score before (λ design text. IsDum
 abbrev pub IsContradictedDump : ScoreValues → Outside → Contradiction → Type 0
 IsContradictedDump score before x = HasDump score before (λ design text. IsContradictedText (habit_in score) design score.instance text x)
 
+-- the table is a score of the design of the sources under the dump
+pub record IsTableIn (score : ScoreValues) (before : Outside) (table : Db) : Type 0 where
+  pub sources : List SourceText
+  pub text : List ℕ
+  pub design : Design
+  pub dump : Dump
+  pub has_design : HasDesign score before sources design
+  pub dump_is : IsFile before score.dump text
+  pub is_dump : IsDump text dump
+  pub scores : IsScoreOf (scored_of (habit_in score) design has_design.machines dump score.instance table) (names_of sources)
+
 -- the text is that of the table of the design of the sources under the dump
 pub record IsScoredText (score : ScoreValues) (before : Outside) (text : List ℕ) : Type 0 where
   pub sources : List SourceText
@@ -155,6 +167,7 @@ IsDoneBy (of_lcov values) before after = IsTracedIn values before after
 IsDoneBy (of_rank values) before after = IsRankedIn values before after
 IsDoneBy (of_exclude values) before after = IsChangedIn change.Exclude values before after
 IsDoneBy (of_restore values) before after = IsChangedIn change.Restore values before after
+IsDoneBy (of_selfrun values) before after = IsSelfrunIn values before after
 
 -- the text is the one that a command with these values asks for
 abbrev pub IsTextOf : CommandValues → Outside → List ℕ → Type 0
@@ -165,6 +178,7 @@ IsTextOf (of_lcov values) before text = IsTracedText values before text
 IsTextOf (of_rank values) before text = IsRankedText values before text
 IsTextOf (of_exclude values) before text = IsChangedText change.Exclude values before text
 IsTextOf (of_restore values) before text = IsChangedText change.Restore values before text
+IsTextOf (of_selfrun values) before text = IsSelfrunText values text
 
 -- what the command asks for was done
 abbrev pub IsDoneWork : Command → Outside → Outside → Type 0

@@ -16,7 +16,7 @@ pub(crate) enum DumpRefusal<'a> {
     At { kind: DumpKind, byte: u64 },
     /// No variable is in the scope of the path or below it.
     NoInstance { path: &'a str },
-    /// There is a second time, and the signal of this path, which is bound, has no value before it.
+    /// A stretch has a second time, and the signal of this path, which is bound, has no value in the stretch before it.
     NoBaseline { path: Name },
 }
 

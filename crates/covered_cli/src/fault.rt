@@ -7,6 +7,7 @@ use crate::contradiction::Contradiction;
 use crate::database_message::database_status;
 use crate::dump_refusal::DumpRefusal;
 use crate::points_message::points_status;
+use crate::selfrun_fault::SelfrunFault;
 use crate::source_message::source_status;
 use command_line::UsageFault;
 use cov_host::NoMemory;
@@ -35,6 +36,8 @@ pub(crate) enum Fault<'a> {
     Memory,
     /// A command over databases ended without its output.
     Databases(CommandFault<'a>),
+    /// The counts of a selfrun were not printed.
+    Selfrun(SelfrunFault),
 }
 
 impl Fault<'_> {
@@ -52,6 +55,8 @@ impl Fault<'_> {
             Fault::Files { .. } => Status::Files,
             Fault::Memory => Status::Memory,
             Fault::Databases(fault) => database_status(fault),
+            Fault::Selfrun(SelfrunFault::Print) => Status::Files,
+            Fault::Selfrun(SelfrunFault::NoMemory) => Status::Memory,
         }
     }
 }

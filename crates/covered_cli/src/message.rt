@@ -14,6 +14,7 @@ use crate::fault::Fault;
 use crate::files_message::warn_file;
 use crate::pieces::warn_texts;
 use crate::points_message::warn_points;
+use crate::selfrun_fault::SelfrunFault;
 use crate::source_message::warn_source;
 use command_line::UsageFault;
 use cov_host::Host;
@@ -35,7 +36,7 @@ pub(crate) fn warn_of<H: Host>(host: &mut H, fault: &Fault<'_>)
         Fault::Databases(fault) => warn_database(host, fault),
         Fault::Points(fault) => warn_points(host, fault),
         Fault::Files { call, file } => warn_file(host, call.name(), file.as_bytes()),
-        Fault::Usage(_) | Fault::NoMachine { .. } | Fault::Memory => {
+        Fault::Usage(_) | Fault::NoMachine { .. } | Fault::Memory | Fault::Selfrun(_) => {
             warn_texts(host, &pieces_of(fault))
         }
     }
@@ -55,6 +56,8 @@ fn pieces_of<'a>(fault: &Fault<'a>) -> [&'a str; 5]
         | Fault::Databases(_) => ["", "", "", "", ""],
         Fault::NoMachine { name } => machine_pieces(name),
         Fault::Memory => ["covered: memory\n", "", "", "", ""],
+        Fault::Selfrun(SelfrunFault::Print) => ["covered: files: print -\n", "", "", "", ""],
+        Fault::Selfrun(SelfrunFault::NoMemory) => ["covered: memory\n", "", "", "", ""],
     }
 }
 

@@ -22,7 +22,7 @@ ghost use Rattle.covered_cli.specs.Headline.{KeepsOthers};
 ghost use Rattle.covered_cli.specs.Refusing.{IsBindRefusal, IsReplayRefusal};
 ghost use Rattle.covered_cli.specs.ScoreMachines.{habit_when};
 ghost use Rattle.covered_cli.specs.ScoreSources.{sources_in};
-ghost use Rattle.covered_cli.specs.Scoring.{IsDoneIn, IsScoredText};
+ghost use Rattle.covered_cli.specs.Scoring.{IsDoneIn, IsScoredText, IsTableIn};
 ghost use Rattle.covered_cli.specs.declared.fault.Fault.TheVariants as fault_row;
 
 use crate::contradiction::Contradiction;
@@ -43,8 +43,7 @@ use std::alloc::Global;
 use vcd_reader::DumpFault;
 use whole_files::{FileFault, write_file};
 
-/// Scores a dump and writes the database: sources, design, machines, points, dump, binding, verdicts, database, in this order.
-/// The first refusal ends it.
+/// Scores a dump and writes the database. The first refusal ends it.
 pub(crate) fn run_score<'a, H: Host>(
     alloc: Global,
     words: &ScoreWords<'a>,
@@ -59,13 +58,27 @@ pub(crate) fn run_score<'a, H: Host>(
     ensures streams { KeepsStreams (H.outside host.old) (H.outside host.new) }
     ensures counts { CountsUp (H.outside host.old) (H.outside host.new) }
 {
+    let table = table_of(alloc, words, host)?;
+    let text = text_of(alloc, &table)?;
+    write(host, words.output, &text)
+}
+
+/// The table of a score: sources, design, machines, points, dump, binding, verdicts, in this order. The first refusal ends it.
+pub(crate) fn table_of<'a, H: Host>(
+    alloc: Global,
+    words: &ScoreWords<'a>,
+    host: &mut H,
+) -> Result<Db, Fault<'a>>
+    requires { HaveForms (score_values words.now) }
+    ensures table { IfOk result (IsTableIn (score_values words.now) (H.outside host.old)) }
+    ensures fault { IfErr result (StandsIn (score_values words.now) (H.outside host.old) (H.outside host.new)) }
+    ensures effects { OnlyReads (H.outside host.old) (H.outside host.new) }
+{
     let ReadDesign { design, sources } = design_of(alloc, host, words)?;
     let mut states = states_of(alloc, words.machines)?;
     draw_machines(alloc, &design, words.drawings, &mut states)?;
     let points = points_of(alloc, &design, &states)?;
-    let db = db_of(alloc, host, &design, &points, sources, words)?;
-    let text = text_of(alloc, &db)?;
-    write(host, words.output, &text)
+    db_of(alloc, host, &design, &points, sources, words)
 }
 
 /// The design of the command's sources, and the names of the sources.

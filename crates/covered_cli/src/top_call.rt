@@ -4,7 +4,7 @@ ghost use Rattle.cov_host.specs.Outside.{KeepsFiles, KeepsInput, KeepsOutput, To
 ghost use Rattle.database_commands.specs.Reporting.{KeepsUnlessNamed, LeavesFront, PrintsIfUnnamed};
 ghost use Rattle.whole_files.specs.Effects.{CountsUp};
 ghost use Rattle.covered_cli.specs.Complete.{EndsWith, HasBadDump, HasBadSource, HasUnboundDump, IsCommandWith, IsGoodScore, LacksPoints, NoFaults, RefusesBinding, RefusesDump, RefusesPoints};
-ghost use Rattle.covered_cli.specs.Covered.{HasContradiction, HasDatabaseCause, HasEarlyStatus, HasFilesCause, HasGoodDatabases, IsNoCommand, IsSomeCommand, KeepsUnnamed, Leaves, PrintsText, WarnsFault};
+ghost use Rattle.covered_cli.specs.Covered.{HasContradiction, HasDatabaseCause, HasEarlyStatus, HasFilesCause, HasGoodDatabases, IsNoCommand, IsSomeCommand, IsSomeSelfrun, KeepsUnnamed, Leaves, PrintsCounts, PrintsText, WarnsFault};
 ghost use Rattle.covered_cli.specs.Effects.{WarnsLine};
 ghost use Rattle.covered_cli.specs.Fault.{HasForms, IsEarly, Stands, StandsInWork, line_of, output_of, status_of};
 ghost use Rattle.covered_cli.specs.Headline.{IsAccepted, IsListed, IsReasonedScore, IsSoundScore};
@@ -14,6 +14,7 @@ use crate::Status;
 use crate::fault::Fault;
 use crate::message::warn_of;
 use crate::score::run_score;
+use crate::selfrun::run_selfrun;
 use command_line::{Command, read_command};
 use cov_host::{Host, Words};
 use database_commands::{run_exclude, run_lcov, run_merge, run_rank, run_report, run_restore};
@@ -22,8 +23,8 @@ use std::alloc::Global;
 /// Does all that the program does with the words that follow its name. A status above 0 is warned of in one line,
 /// and designs that differ in two more.
 pub fn covered<H: Host>(alloc: Global, words: &Words, host: &mut H) -> Status
-    // Nothing is printed except a ranking, and a report for which the words name no file, and no file changes except the
-    // one that the words name for the output.
+    // Nothing is printed except a ranking, the counts of a selfrun, and a report for which the words name no file, and no file changes
+    // except the one that the words name for the output.
     ensures printed { (PrintsText words.now → ⊥) → (H.outside host.new).printed ≡ (H.outside host.old).printed }
     ensures others { Told (KeepsUnnamed words.now) (H.outside host.old).files (H.outside host.new).files }
 
@@ -35,7 +36,8 @@ pub fn covered<H: Host>(alloc: Global, words: &Words, host: &mut H) -> Status
     // With status 0 the output holds what the command asks for: of a score the table of the sources and the dump; of a merge the
     // merge of the tables of the files; of a report its text, without the excluded points, which was printed where no
     // file is named; of `lcov` the tracefile of the table of the file; of `exclude` and `restore` the text of the table of
-    // the file with the points of the words excluded, or no longer. Of `rank` the text of the ranking of the tables of the files was printed.
+    // the file with the points of the words excluded, or no longer. Of `rank` the text of the ranking of the tables of the files was printed,
+    // and of `selfrun` the text of the counts of a table.
     ensures done { result ≡ Status.Done → IsDone words.now (H.outside host.old) (H.outside host.new) }
 
     // The headline: of a score with status 0, the dump fits the design of the sources; the table lists each coverage point of the
@@ -48,11 +50,16 @@ pub fn covered<H: Host>(alloc: Global, words: &Words, host: &mut H) -> Status
     ensures reasoned { result ≡ Status.Done → OfScore IsReasonedScore words.now (H.outside host.old) (H.outside host.new) }
     ensures untouched { result ≡ Status.Done → LeavesElse words.now (H.outside host.old) (H.outside host.new) }
 
+    // Of a selfrun with status 0 the counts of a table were printed for which the headline holds, of the design of the text and the dump of the
+    // words' numbers; the dump has two times for each step, and one more; no point is undetermined; every file is as before, and nothing was warned.
+    ensures counted { result ≡ Status.Done → PrintsCounts words.now (H.outside host.old) (H.outside host.new) }
+
     // Where the files are known and no call of the host fails, their texts decide the status, want of memory aside: a dump
     // that some run shows is scored, and one that has a fault is refused, for it or for what no run shows before it. A
     // design whose points with the machines of the words are too many, or that lacks one of these machines, is refused for that, whatever
     // the dump is, and one that the header of a dump does not bind for that, whatever the dump's body holds.
     ensures complete { IsCommandWith IsGoodScore words.now (H.outside host.old) → NoFaults (H.outside host.old) (H.outside host.new) → EndsWith Status.Done result }
+    ensures selfrun { IsSomeSelfrun words.now → NoFaults (H.outside host.old) (H.outside host.new) → EndsWith Status.Done result }
     ensures databases { HasGoodDatabases words.now (H.outside host.old) → NoFaults (H.outside host.old) (H.outside host.new) → EndsWith Status.Done result }
     ensures source { IsCommandWith HasBadSource words.now (H.outside host.old) → NoFaults (H.outside host.old) (H.outside host.new) → EndsWith Status.Source result }
     ensures points { IsCommandWith LacksPoints words.now (H.outside host.old) → NoFaults (H.outside host.old) (H.outside host.new) → RefusesPoints words.now result (H.outside host.old) (H.outside host.new) }
@@ -152,6 +159,10 @@ fn run_command<'a, H: Host>(
         Command::Restore(words) => match run_restore(alloc, words, host) {
             Ok(()) => Ok(()),
             Err(fault) => Err(Fault::Databases(fault)),
+        },
+        Command::Selfrun(words) => match run_selfrun(alloc, words, host) {
+            Ok(()) => Ok(()),
+            Err(fault) => Err(Fault::Selfrun(fault)),
         },
     }
 }

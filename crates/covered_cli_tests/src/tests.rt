@@ -33,6 +33,14 @@ const WITHOUT_A: &str =
 const OPEN_A: &str =
     "covered-db 2\ntop pads\nsource 1 pads.v\ninstance pads pads\npoints 6\nt pads a 0 01 = ? 1 pads.a\nt pads a 0 10 = ? 1 pads.a\nt pads a 1 01 = ? 1 pads.a\nt pads a 1 10 = ? 1 pads.a\nt pads clk - 01 = hit\nt pads clk - 10 = hit\nwindows 1\nwindow 0 15\nend\n";
 
+/// A dump that goes off at 10 and on at 20. Between the two the upper bit of `a` rises.
+const GAPS: &str =
+    "$scope module tb $end\n$scope module dut $end\n$var wire 1 ! clk $end\n$var wire 2 \" a $end\n$upscope $end\n$upscope $end\n$enddefinitions $end\n#0\n0!\nb00 \"\n#5\n1!\nb01 \"\n#10\n$dumpoff\nx!\nbx \"\n$end\n#20\n$dumpon\n1!\nb11 \"\n$end\n#25\n0!\nb10 \"\n#30\n1!\n";
+
+/// Its database: the steps at 5 and at 25 are scored.
+const TWO_WINDOWS: &str =
+    "covered-db 2\ntop pads\nsource 1 pads.v\ninstance pads pads\npoints 6\nt pads a 0 01 = hit\nt pads a 0 10 = hit\nt pads a 1 01 = missed\nt pads a 1 10 = missed\nt pads clk - 01 = hit\nt pads clk - 10 = hit\nwindows 2\nwindow 0 10\nwindow 20 30\nend\n";
+
 /// A dump as a simulator writes it, with a real variable, a parameter, groups and a comment in the body.
 const REALISTIC: &str =
     "$date\n\tThu Jan  4 12:00:00 2024\n$end\n$version\n\town example\n$end\n$timescale\n\t1ns\n$end\n$scope module tb $end\n$var reg 1 ! clk $end\n$var real 1 ) load $end\n$scope module dut $end\n$var wire 1 ! clk $end\n$var wire 2 \" a [1:0] $end\n$var parameter 2 ' IDLE $end\n$upscope $end\n$upscope $end\n$enddefinitions $end\n$comment Show the parameter values. $end\n$dumpall\nb0 '\n$end\n#0\n$dumpvars\nr0 )\n0!\nb0 \"\n$end\n#5\n1!\nb1 \"\n#10\n0!\nb1x \"\n#15\n1!\n";
@@ -129,6 +137,24 @@ const INV_LACKING: &str =
 const INV_DATABASE: &str =
     "covered-db 2\ntop inv\nsource 1 inv.v\ninstance inv inv\npoints 9\nc inv 1 1:1 & 0- = missed\nc inv 1 1:1 & -0 = missed\nc inv 1 1:1 & 11 = hit\nt inv a - 01 = hit\nt inv a - 10 = missed\nt inv b - 01 = missed\nt inv b - 10 = missed\nt inv y - 01 = hit\nt inv y - 10 = missed\nwindows 1\nwindow 0 10\nend\n";
 
+/// What two steps from the number 1 print.
+const TWO_STEPS: &str =
+    "covered selfrun 1\ntimes 5\npoints 98\nhit 19\nmissed 79\nundetermined 0\n";
+
+/// What sixteen steps from the number 0 print.
+const SIXTEEN_STEPS: &str =
+    "covered selfrun 1\ntimes 33\npoints 98\nhit 61\nmissed 37\nundetermined 0\n";
+
+/// Many steps.
+const LONG: Case = Case {
+    words: &["selfrun", "7", "1000"],
+    files: &[],
+    status: Status::Done,
+    output: NONE,
+    printed: "covered selfrun 1\ntimes 2001\npoints 98\nhit 98\nmissed 0\nundetermined 0\n",
+    warned: "",
+};
+
 /// The tables.
 const TABLES: &[File] = &[("t1.db", FIRST), ("t2.db", SECOND), ("t5.db", OTHER)];
 
@@ -139,6 +165,7 @@ const SCORED: &[Case] = &[
     Case { words: SCORE, files: &[("pads.v", SOURCE), ("D", DUMP)], status: Status::Done, output: ("B", DATABASE), printed: "", warned: "" },
     Case { words: SCORE, files: &[("pads.v", SOURCE), ("D", REALISTIC)], status: Status::Done, output: ("B", DATABASE), printed: "", warned: "" },
     Case { words: SCORE, files: &[("pads.v", SOURCE), ("D", WITHOUT_A)], status: Status::Done, output: ("B", OPEN_A), printed: "", warned: "" },
+    Case { words: SCORE, files: &[("pads.v", SOURCE), ("D", GAPS)], status: Status::Done, output: ("B", TWO_WINDOWS), printed: "", warned: "" },
 ];
 
 /// Dumps that are refused, and sources with what they include.
@@ -187,6 +214,16 @@ const DATABASES: &[Case] = &[
     Case { words: &["rank", "t1.db", "t5.db"], files: TABLES, status: Status::Database, output: NONE, printed: "", warned: "covered: database: t5.db: 4 DesignsDiffer 2\n< top ff\n> top ffr\n" },
     Case { words: &["rank", "t1.db", "t5.db", "none.db"], files: TABLES, status: Status::Files, output: NONE, printed: "", warned: "covered: files: open_read none.db\n" },
     Case { words: &["rank"], files: TABLES, status: Status::Usage, output: NONE, printed: "", warned: "covered: usage: missing file\n" },
+];
+
+/// Selfruns, and words that are none.
+#[rattlefmt::skip]
+const SELFRUNS: &[Case] = &[
+    Case { words: &["selfrun", "1", "2"], files: &[], status: Status::Done, output: NONE, printed: TWO_STEPS, warned: "" },
+    Case { words: &["selfrun", "0001", "002"], files: TABLES, status: Status::Done, output: NONE, printed: TWO_STEPS, warned: "" },
+    Case { words: &["selfrun", "0", "16"], files: &[], status: Status::Done, output: NONE, printed: SIXTEEN_STEPS, warned: "" },
+    Case { words: &["selfrun", "1", "1000001"], files: &[], status: Status::Usage, output: NONE, printed: "", warned: "covered: usage: bad value 1000001\n" },
+    Case { words: &["selfrun", "1", "2", "3"], files: &[], status: Status::Usage, output: NONE, printed: "", warned: "covered: usage: unknown word 3\n" },
 ];
 
 /// The words of a case.
@@ -270,6 +307,30 @@ fn joins_and_reports_databases(rt: HostRuntime) {
     assert!(rt; all_end(rt.alloc(), DATABASES));
 }
 
+#[test]
+fn makes_and_scores_a_selfrun(rt: HostRuntime) {
+    assert!(rt; all_end(rt.alloc(), SELFRUNS));
+}
+
+/// Whether two calls of a command print the same on two hosts.
+fn prints_the_same_twice(alloc: Global, case: &Case) -> bool {
+    let (Ok(words), Ok(mut one), Ok(mut other)) = (
+        words_of(alloc, case),
+        host_of(alloc, case),
+        host_of(alloc, case),
+    ) else {
+        return false;
+    };
+    covered(alloc, &words, &mut one) == covered(alloc, &words, &mut other)
+        && one.printed() == other.printed()
+}
+
+#[test]
+fn a_selfrun_prints_the_same_twice(rt: HostRuntime) {
+    assert!(rt; ends(rt.alloc(), &LONG, false));
+    assert!(rt; prints_the_same_twice(rt.alloc(), &LONG));
+}
+
 /// A command of which one call of the host fails, by its number: the status that it ends with, and what it warns.
 struct Failing {
     words: &'static [&'static str],
@@ -279,7 +340,7 @@ struct Failing {
     warned: &'static str,
 }
 
-/// Each call of a score, a merge and a report in turn. A warning that is refused leaves the status.
+/// Each call of a score, a merge, a report and a selfrun in turn. A warning that is refused leaves the status.
 #[rattlefmt::skip]
 const FAILING: &[Failing] = &[
     Failing { words: SCORE, files: &[("pads.v", SOURCE), ("D", DUMP)], call: 1, status: Status::Files, warned: "covered: files: open_read pads.v\n" },
@@ -299,6 +360,7 @@ const FAILING: &[Failing] = &[
     Failing { words: &["merge", "-o", "m.db", "t2.db", "t1.db"], files: TABLES, call: 5, status: Status::Files, warned: "covered: files: read t1.db\n" },
     Failing { words: &["merge", "-o", "m.db", "t2.db", "t1.db"], files: TABLES, call: 7, status: Status::Files, warned: "covered: files: open_write m.db\n" },
     Failing { words: &["report", "t1.db"], files: TABLES, call: 4, status: Status::Files, warned: "covered: files: print -\n" },
+    Failing { words: &["selfrun", "1", "2"], files: &[], call: 1, status: Status::Files, warned: "covered: files: print -\n" },
     Failing { words: &["score", "-t"], files: &[], call: 1, status: Status::Usage, warned: "" },
     Failing { words: &["report", "t9.db"], files: TABLES, call: 2, status: Status::Files, warned: "" },
     Failing { words: SCORE_M, files: &[("m.v", "module m(input a);\n")], call: 4, status: Status::Source, warned: "" },

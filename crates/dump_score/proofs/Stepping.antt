@@ -1,13 +1,13 @@
 -- One step of a body, and what the replay was given after it.
-use Rattle.std.proofs.Common.{◌≡◌, ℕ, Bool, ◌+◌, ◌<◌, ◌≤◌, List, [], ◌∷◌, ◌++◌, length, take, drop, None, refl, sym, ap, subst, ◌∙◌, append_assoc, append-nil, arith, take-append-drop, inr}
+use Rattle.std.proofs.Common.{◌≡◌, ℕ, Bool, ◌+◌, ◌<◌, ◌≤◌, List, [], ◌∷◌, ◌++◌, length, take, drop, refl, sym, ap, subst, ◌∙◌, append_assoc, append-nil, arith, take-append-drop, inr}
 use Rattle.std.proofs.Math.Seq.{take-add, take-length}
 use Rattle.design_model.specs.declared.design.Design.{Design}
 use Rattle.event_machine.specs.Habit.{Habit}
-use Rattle.vcd_reader.proofs.RisingTimes.{times_rise, times_rise_so_far}
+use Rattle.vcd_reader.proofs.Turns.{ordered_at_end, ordered_so_far}
 use Rattle.vcd_reader.specs.Pieces.{BodyHasRead, StepsTo}
 use Rattle.vcd_reader.specs.Reading.{Body}
 use Rattle.vcd_reader.specs.Text.{EndsAs}
-use Rattle.vcd_reader.specs.Times.{Rises}
+use Rattle.vcd_reader.specs.Order.{AreOrdered}
 use Rattle.vcd_reader.specs.Wanted.{IsUnwanted, item_by, saying_more}
 use Rattle.vcd_reader.specs.WantedPieces.{HearsTo, kept_value}
 use Rattle.four_state.specs.Vector.{Vector}
@@ -47,6 +47,8 @@ pub stepped : (says : Item) (used : ℕ) (body : BodyRow) (text piece : List ℕ
 stepped says used body text [] b some s = absurd (omega (arith, some))
 stepped (item.Time time) used body text (byte ∷ piece) b some s = record { at_least = s.steps.at_least; at_most = s.steps.at_most; next = s.steps.next.next; read = record { sound = s.sound; stands = s.steps.next.stands }; items = s.steps.next.said.items; vars = s.steps.next.said.vars }
 stepped (item.Value code value) used body text (byte ∷ piece) b some s = record { at_least = s.steps.at_least; at_most = s.steps.at_most; next = s.steps.next.next; read = record { sound = s.sound; stands = s.steps.next.stands }; items = s.steps.next.said.items; vars = s.steps.next.said.vars }
+stepped item.Off used body text (byte ∷ piece) b some s = record { at_least = s.steps.at_least; at_most = s.steps.at_most; next = s.steps.next.next; read = record { sound = s.sound; stands = s.steps.next.stands }; items = s.steps.next.said.items; vars = s.steps.next.said.vars }
+stepped (item.On time) used body text (byte ∷ piece) b some s = record { at_least = s.steps.at_least; at_most = s.steps.at_most; next = s.steps.next.next; read = record { sound = s.sound; stands = s.steps.next.stands }; items = s.steps.next.said.items; vars = s.steps.next.said.vars }
 stepped item.More used body text (byte ∷ piece) b some s =
     let all : take used (byte ∷ piece) ≡ byte ∷ piece = ap (λ n. take n (byte ∷ piece)) s.steps.all ∙ take-length (byte ∷ piece) in
     record {
@@ -85,17 +87,17 @@ PassesOver wanted replay =
 -- what is said is given to the replay
 abbrev pub Says : Item → DumpReplay → DumpReplay → Type 0
 Says says replay told =
-    (habit : Habit) (design : Design) (points : Points) (vars : List Var) (instance : List ℕ) (entries : List Entry) → AreEntries vars (entries ++ entries_of says) → Rises None (entries ++ entries_of says)
+    (habit : Habit) (design : Design) (points : Points) (vars : List Var) (instance : List ℕ) (entries : List Entry) → AreEntries vars (entries ++ entries_of says) → AreOrdered (entries ++ entries_of says)
     → HasFollowed replay habit design points vars instance entries → HasFollowed told habit design points vars instance (entries ++ entries_of says)
 
 -- or the fault is one of what is said
 abbrev pub Faults : Item → DumpReplay → ReplayFault → Type 0
 Faults says replay f =
-    (habit : Habit) (design : Design) (points : Points) (vars : List Var) (instance : List ℕ) (entries : List Entry) → AreEntries vars (entries ++ entries_of says) → Rises None (entries ++ entries_of says)
+    (habit : Habit) (design : Design) (points : Points) (vars : List Var) (instance : List ℕ) (entries : List Entry) → AreEntries vars (entries ++ entries_of says) → AreOrdered (entries ++ entries_of says)
     → HasFollowed replay habit design points vars instance entries → IsReplayFault habit design vars instance (entries ++ entries_of says) f
 
-rises_read : (body : BodyRow) (text : List ℕ) (b : Body) → BodyHasRead body text b → Rises None b.items
-rises_read body text b read = times_rise_so_far text read.stands.word b read.stands.stands
+ordered_read : (body : BodyRow) (text : List ℕ) (b : Body) → BodyHasRead body text b → AreOrdered b.items
+ordered_read body text b read = ordered_so_far text read.stands.word b read.stands.stands
 
 fit_read : (body : BodyRow) (text : List ℕ) (b : Body) → BodyHasRead body text b → AreEntries b.vars b.items
 fit_read body text b read = entries_so_far text read.stands.word b read.stands.stands
@@ -141,8 +143,8 @@ module _ (wanted : List Bool) (says : Item) (used : ℕ) (body new : BodyRow) (r
   said_followed : HasFollowed replay habit design points vars instance said
   said_followed = passes habit design points vars instance is.b.items passing.passed is.followed passing.unwanted
 
-  said_rises : Rises None (said ++ entries_of says)
-  said_rises = subst (Rises None) after_step.items (rises_read new (text ++ take used piece) after_step.next after_step.read)
+  said_ordered : AreOrdered (said ++ entries_of says)
+  said_ordered = subst AreOrdered after_step.items (ordered_read new (text ++ take used piece) after_step.next after_step.read)
 
   said_fits : AreEntries vars (said ++ entries_of says)
   said_fits =
@@ -150,20 +152,20 @@ module _ (wanted : List Bool) (says : Item) (used : ℕ) (body new : BodyRow) (r
       (subst (λ vs. AreEntries vs after_step.next.items) (after_step.vars ∙ is.vars_are) (fit_read new (text ++ take used piece) after_step.next after_step.read))
 
   step_can_say : CanSay replay says
-  step_can_say = (habit, design, points, vars, instance, said, said_followed, said_fits)
+  step_can_say = (habit, design, points, vars, instance, said, said_followed, said_fits, said_ordered)
 
   pub scored_step : (told : DumpReplay) → Says says replay told → IsScoring new told habit design points vars instance (text ++ take used piece)
   scored_step told tells = record {
     b = after_step.next;
     stands = after_step.read;
     vars_are = after_step.vars ∙ is.vars_are;
-    followed = subst (λ entries. HasFollowed told habit design points vars instance entries) (sym after_step.items) (tells habit design points vars instance said said_fits said_rises said_followed);
+    followed = subst (λ entries. HasFollowed told habit design points vars instance entries) (sym after_step.items) (tells habit design points vars instance said said_fits said_ordered said_followed);
   }
 
   pub step_found : (f : ReplayFault) → Faults says replay f → IsFoundFault habit design instance (text ++ piece) (fault.Replay f)
   step_found f faults =
       subst (λ t. IsFoundFault habit design instance t (fault.Replay f)) (all_of text piece used)
-      (saying_found habit design vars instance (text ++ take used piece) (drop used piece) new after_step.next (said ++ entries_of says) f (after_step.vars ∙ is.vars_are) after_step.items after_step.read (faults habit design points vars instance said said_fits said_rises said_followed))
+      (saying_found habit design vars instance (text ++ take used piece) (drop used piece) new after_step.next (said ++ entries_of says) f (after_step.vars ∙ is.vars_are) after_step.items after_step.read (faults habit design points vars instance said said_fits said_ordered said_followed))
 
 -- the replay can be given what the step says
 pub can_say : (wanted : List Bool) (says : Item) (used : ℕ) (body new : BodyRow) (replay : DumpReplay) (piece : List ℕ) → 0 < length piece → Steps wanted says used body new piece → PassesOver wanted replay → IsScoringSome body replay → CanSay replay says
@@ -190,6 +192,8 @@ pub record EndStepped (says : Item) (text : List ℕ) (b : Body) : Type 0 where
 pub end_stepped : (says : Item) (used : ℕ) (body : BodyRow) (text : List ℕ) (b : Body) → StepsTo says used body text [] b → EndStepped says text b
 end_stepped (item.Time time) used body text b s = record { next = s.steps.next; ends = s.steps.ended.ends; items = s.steps.said.items; vars = s.steps.said.vars }
 end_stepped (item.Value code value) used body text b s = record { next = s.steps.next; ends = s.steps.ended.ends; items = s.steps.said.items; vars = s.steps.said.vars }
+end_stepped item.Off used body text b s = record { next = s.steps.next; ends = s.steps.ended.ends; items = s.steps.said.items; vars = s.steps.said.vars }
+end_stepped (item.On time) used body text b s = record { next = s.steps.next; ends = s.steps.ended.ends; items = s.steps.said.items; vars = s.steps.said.vars }
 end_stepped item.More used body text b s = absurd s.steps
 end_stepped item.End used body text b s = record { next = s.steps.next; ends = s.steps.ended.ends; items = s.steps.said.items; vars = s.steps.said.vars }
 
@@ -203,25 +207,25 @@ ended_again text b ends = record { next = b; ends = ends; items = sym (append-ni
 
 -- the end of what was read so far
 module _ (says : Item) (replay : DumpReplay) (habit : Habit) (design : Design) (points : Points) (vars : List Var) (instance text : List ℕ) (b : Body) (s : EndStepped says text b) (vars_are : b.vars ≡ vars) (followed : HasFollowed replay habit design points vars instance b.items) where
-  end_rises : Rises None (b.items ++ entries_of says)
-  end_rises = subst (Rises None) s.items (times_rise text s.next s.ends)
+  end_ordered : AreOrdered (b.items ++ entries_of says)
+  end_ordered = subst AreOrdered s.items (ordered_at_end text s.next s.ends)
 
   end_fits : AreEntries vars (b.items ++ entries_of says)
   end_fits = subst (λ es. AreEntries vars es) s.items (subst (λ vs. AreEntries vs s.next.items) (s.vars ∙ vars_are) (body_entries text s.next (inr s.ends)))
 
   pub end_can_say : CanSay replay says
-  end_can_say = (habit, design, points, vars, instance, b.items, followed, end_fits)
+  end_can_say = (habit, design, points, vars, instance, b.items, followed, end_fits, end_ordered)
 
   pub scored_end : (told : DumpReplay) → Says says replay told → HasScored told habit design points vars instance text
   scored_end told tells = record {
     b = s.next;
     ends = s.ends;
     vars_are = s.vars ∙ vars_are;
-    followed = subst (λ entries. HasFollowed told habit design points vars instance entries) (sym s.items) (tells habit design points vars instance b.items end_fits end_rises followed);
+    followed = subst (λ entries. HasFollowed told habit design points vars instance entries) (sym s.items) (tells habit design points vars instance b.items end_fits end_ordered followed);
   }
 
   pub end_fault : (f : ReplayFault) → Faults says replay f → IsEndFault habit design instance text (fault.Replay f)
-  end_fault f faults = saying_ends habit design vars instance text s.next (b.items ++ entries_of says) f (s.vars ∙ vars_are) s.items s.ends (faults habit design points vars instance b.items end_fits end_rises followed)
+  end_fault f faults = saying_ends habit design vars instance text s.next (b.items ++ entries_of says) f (s.vars ∙ vars_are) s.items s.ends (faults habit design points vars instance b.items end_fits end_ordered followed)
 
 -- ---- a part of a piece
 

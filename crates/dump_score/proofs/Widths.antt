@@ -1,5 +1,5 @@
 -- A change that a dump says is as wide as the signals of its code.
-use Rattle.std.proofs.Common.{◌≡◌, ℕ, List, [], ◌∷◌, ◌++◌, length, Some, is_some, refl, sym, ap, subst, ◌∙◌}
+use Rattle.std.proofs.Common.{◌≡◌, ℕ, ◌<◌, List, [], ◌∷◌, ◌++◌, length, Some, is_some, refl, sym, ap, subst, ◌∙◌}
 use Rattle.std.proofs.lemmas.List.Elements.{All-pop}
 use Rattle.design_model.specs.Design.{signal_at}
 use Rattle.design_model.specs.declared.design.Design.{Design}
@@ -11,8 +11,12 @@ use Rattle.dump_replay.proofs.shown_dumps.Bits.{found_first}
 use Rattle.dump_replay.proofs.shown_dumps.Dumps.{code_is, coded_signal}
 use Rattle.dump_replay.specs.shown_dumps.Shown.{code_at}
 use Rattle.signal_binding.specs.Binding.{codes_of, names_of, signal_of}
+use Rattle.coverage_db.specs.declared.window.Window.{Window}
+use Rattle.dump_replay.proofs.Windows.{windows_few}
+use Rattle.dump_replay.specs.value_store.Queue.{Queue}
+use Rattle.vcd_reader.proofs.Turns.{on_at_off, ordered_front}
 use Rattle.vcd_reader.specs.declared.entry.Entry.{Entry}
-use Rattle.vcd_reader.specs.declared.entry.Entry.TheVariants.{Value}
+use Rattle.vcd_reader.specs.declared.entry.Entry.TheVariants.{Off, Value}
 use Rattle.vcd_reader.specs.declared.item.Item.TheVariants as item
 use Rattle.vcd_reader.specs.declared.vars.Var.{Var}
 use Rattle.dump_score.specs.Scoring.{CanSay}
@@ -32,6 +36,13 @@ as_wide design vars instance code value fits s bound =
 
 -- so it is with the change that a dump says next
 pub change_width : (replay : DumpReplay) (code : ℕ) (value : Vector) → CanSay replay (item.Value code value) → (s : ℕ) → code_at (made_of replay.replay).codes s ≡ Some code → length value.bits ≡ (signal_at (made_of replay.replay).design s).width
-change_width replay code value (habit, design, points, vars, instance, entries, followed, fits) s bound =
+change_width replay code value (habit, design, points, vars, instance, entries, followed, fits, ordered) s bound =
     as_wide design vars instance code value (last_fits vars entries (Value code value) fits) s (subst (λ cs. code_at cs s ≡ Some code) followed.of.codes bound)
     ∙ ap (λ d. (signal_at d s).width) (sym followed.of.design_is)
+
+-- where the dump goes off there is room for one window more
+pub has_room : (replay : DumpReplay) → CanSay replay item.Off → length replay.windows.items < replay.windows.room
+has_room replay (habit, design, points, vars, instance, entries, followed, fits, ordered) =
+    let on = on_at_off entries [] ordered.in_turn in
+    let few = windows_few entries on (ordered_front entries (Off ∷ []) ordered).few in
+    subst (λ (q : Queue Window). length q.items < q.room) (sym followed.windows) few

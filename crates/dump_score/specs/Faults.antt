@@ -23,7 +23,7 @@ SaysSome text P = (b : Body) × SaysBody text b × P b
 abbrev pub Binds : List ℕ → List ℕ → Type 0
 Binds instance text = SaysSome text (λ b. HasInstance b.vars instance)
 
--- as far as the text says, each signal of the design that is bound has a value before the second time
+-- as far as the text says, each signal of the design that is bound has a value in each stretch before its second time
 abbrev pub LacksNone : Design → List ℕ → List ℕ → Type 0
 LacksNone design instance text = (b : Body) (s : ℕ) → SaysBody text b → HasNoBaseline design b.vars instance b.items s → ⊥
 

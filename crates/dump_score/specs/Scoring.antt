@@ -24,6 +24,7 @@ use Rattle.dump_replay.specs.verdict_laws.Sound.{IsSound}
 use Rattle.dump_replay.specs.shown_dumps.Bound.{IsBound}
 use Rattle.dump_replay.specs.shown_dumps.Shown.{bound_dump}
 use Rattle.vcd_reader.specs.Dump.{Dump, IsDump}
+use Rattle.vcd_reader.specs.Order.{AreOrdered}
 use Rattle.vcd_reader.specs.Pieces.{BodyHasEnded, BodyHasRead, Splits, body_at_end}
 use Rattle.vcd_reader.specs.Reading.{Body}
 use Rattle.vcd_reader.specs.Text.{EndsAs}
@@ -41,6 +42,8 @@ use Rattle.dump_score.specs.declared.header.Span.{Span}
 abbrev pub entries_of : Item → List Entry
 entries_of (item.Time time) = entry.Time time ∷ []
 entries_of (item.Value code value) = entry.Value code value ∷ []
+entries_of item.Off = entry.Off ∷ []
+entries_of (item.On time) = entry.On time ∷ []
 entries_of item.More = []
 entries_of item.End = []
 
@@ -48,7 +51,7 @@ entries_of item.End = []
 abbrev pub CanSay : DumpReplay → Item → Type 0
 CanSay replay says =
     (habit : Habit) × (design : Design) × (points : Points) × (vars : List Var) × (instance : List ℕ) × (entries : List Entry)
-    × HasFollowed replay habit design points vars instance entries × AreEntries vars (entries ++ entries_of says)
+    × HasFollowed replay habit design points vars instance entries × AreEntries vars (entries ++ entries_of says) × AreOrdered (entries ++ entries_of says)
 
 -- the body goes on
 abbrev pub IsReading : BodyRow → Type 0
@@ -112,7 +115,7 @@ pub record IsOpen (name : List ℕ) (before now : Outside) (piece : List ℕ) (s
   pub goes_on : 0 < span.count → IsScoring body replay habit design points vars instance front
   pub ended : span.count ≡ 0 → IsFile before name front × CanEnd body replay habit design points vars instance front
 
--- at no listed time before the last a bound signal has a forced value other than the dump's
+-- at no listed time before the last of its stretch a bound signal has a forced value other than the dump's
 abbrev pub AreForced : Habit → Tree → BoundDump → Type 0
 AreForced h d dump = (t s : ℕ) (bits : List Bit) → IsForced d h dump t s bits → signal_bits d (dump.values t) s ≡ bits
 
@@ -125,7 +128,7 @@ pub record IsScoreUnder (habit : Habit) (design : Design) (machines : StateMachi
   pub listed : ListsPoints (design_view design) machines db
   pub sound : ByLastRounds (design_view design) (bound_dump design dump instance) (λ said. IsSound (design_view design) habit said machines db)
   pub reasoned : ByLastRounds (design_view design) (bound_dump design dump instance) (λ said. IsReasoned (design_view design) habit said machines db)
-  pub windows : db.windows ≡ windows_of (bound_dump design dump instance).times
+  pub windows : db.windows ≡ windows_of (bound_dump design dump instance).stretches
 
 -- so it is under the dump in the file
 pub record IsScoreOfFile (name : List ℕ) (before : Outside) (habit : Habit) (design : Design) (machines : StateMachines) (sources : List (List ℕ)) (instance : List ℕ) (db : Db) : Type 0 where

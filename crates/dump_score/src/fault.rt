@@ -18,8 +18,8 @@ pub enum ScoreFault {
     Dump(DumpFault),
     /// The header does not fit the design.
     Bind(BindFault),
-    /// A bound signal has no value before the second time, or no run of the design shows what was read before the first fault
-    /// of the dump.
+    /// A bound signal has no value in a stretch before its second time, or no run of the design shows what was read before the
+    /// first fault of the dump.
     Replay(ReplayFault),
 }
 

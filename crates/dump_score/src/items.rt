@@ -1,4 +1,4 @@
-ghost use Rattle.std.specs.Prelude.{◌≡◌, ◌<◌, ◌≤◌, ◌++◌, ℕ, true, List, None, length, OnOk, IfErr};
+ghost use Rattle.std.specs.Prelude.{◌≡◌, ◌<◌, ◌≤◌, ◌++◌, ℕ, true, List, length, OnOk, IfErr};
 ghost use Rattle.cov_host.specs.Outside.{Outside};
 ghost use Rattle.cover_points.specs.declared.listing.Points.{Points as SpecPoints};
 ghost use Rattle.design_model.specs.declared.design.Design.{Design as SpecDesign};
@@ -6,7 +6,7 @@ ghost use Rattle.dump_replay.specs.Faults.{IsReplayFault};
 ghost use Rattle.dump_replay.specs.Followed.{HasFollowed};
 ghost use Rattle.entry_laws.specs.Entries.{AreEntries};
 ghost use Rattle.event_machine.specs.Habit.{Habit as SpecHabit};
-ghost use Rattle.vcd_reader.specs.Times.{Rises};
+ghost use Rattle.vcd_reader.specs.Order.{AreOrdered};
 ghost use Rattle.vcd_reader.specs.Wanted.{item_by};
 ghost use Rattle.vcd_reader.specs.declared.entry.Entry.{Entry};
 ghost use Rattle.vcd_reader.specs.declared.vars.Var.{Var as SpecVar};
@@ -30,16 +30,24 @@ const LONGEST_DUMP: u64 = 1_099_511_627_776;
 pub(crate) fn say(replay: &mut DumpReplay, saying: Saying, value: &Four) -> Result<(), ReplayFault>
     requires { CanSay replay.old (item_by saying value.now) }
     ensures ok { OnOk result ((habit : SpecHabit) (design : SpecDesign) (points : SpecPoints) (vars : List SpecVar) (instance : List ℕ) (entries : List Entry)
-        → AreEntries vars (entries ++ entries_of (item_by saying value.now)) → Rises None (entries ++ entries_of (item_by saying value.now))
+        → AreEntries vars (entries ++ entries_of (item_by saying value.now)) → AreOrdered (entries ++ entries_of (item_by saying value.now))
         → HasFollowed replay.old habit design points vars instance entries → HasFollowed replay.new habit design points vars instance (entries ++ entries_of (item_by saying value.now))) }
     ensures fault { IfErr result (λ fault. (habit : SpecHabit) (design : SpecDesign) (points : SpecPoints) (vars : List SpecVar) (instance : List ℕ) (entries : List Entry)
-        → AreEntries vars (entries ++ entries_of (item_by saying value.now)) → Rises None (entries ++ entries_of (item_by saying value.now))
+        → AreEntries vars (entries ++ entries_of (item_by saying value.now)) → AreOrdered (entries ++ entries_of (item_by saying value.now))
         → HasFollowed replay.old habit design points vars instance entries → IsReplayFault habit design vars instance (entries ++ entries_of (item_by saying value.now)) fault) }
 {
     match saying {
         Saying::Time(time) => replay.open_step(time),
         Saying::Change(code) => {
             replay.change(code, value);
+            Ok(())
+        }
+        Saying::Off => {
+            replay.end_stretch();
+            Ok(())
+        }
+        Saying::On(time) => {
+            replay.begin_stretch(time);
             Ok(())
         }
         Saying::More | Saying::End => Ok(()),

@@ -43,7 +43,7 @@ exclude_fault words fault has = inr (inr (inr (inr (inr (inl has)))))
 restore_fault : (words : List (List ℕ)) (fault : UsageFault) → HasDatabaseFault Restore words fault → HasUsageFault words fault
 restore_fault words NoCommand has = absurd has.3
 restore_fault words (UnknownCommand word) has = absurd has.3
-restore_fault words fault has = inr (inr (inr (inr (inr (inr has)))))
+restore_fault words fault has = inr (inr (inr (inr (inr (inr (inl has))))))
 
 pub returns-in-Some-report-clause-fault : goal.returns-in-Some-report-clause-fault
 returns-in-Some-report-clause-fault c =

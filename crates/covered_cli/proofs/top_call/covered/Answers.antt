@@ -5,6 +5,7 @@ use Rattle.covered_cli.proofs.Complete.{bad_dump_ends, bad_dump_not_done, bad_so
 use Rattle.covered_cli.proofs.Databases.{database_cause, early_status, files_cause, good_databases_end, stands_later}
 use Rattle.covered_cli.proofs.Leaving.{all_later, left_later}
 use Rattle.covered_cli.proofs.Lines.{WarnsLine-since}
+use Rattle.covered_cli.proofs.Selfruns.{counts_printed, selfrun_ends}
 use Rattle.covered_cli.proofs.Untouched.{all_else, fault_not_done, no_text}
 use Rattle.covered_cli.proofs.top_call.covered.Goals as goal
 
@@ -125,3 +126,12 @@ returns-in-Err-clause-reasoned g c is = absurd (fault_not_done c.in-Err.fault (r
 
 pub returns-in-Err-clause-untouched : goal.returns-in-Err-clause-untouched
 returns-in-Err-clause-untouched g c is = absurd (fault_not_done c.in-Err.fault (rw c.tell.ensures.status at is))
+
+pub returns-in-Ok-clause-counted : goal.returns-in-Ok-clause-counted
+returns-in-Ok-clause-counted g c is = counts_printed _ _ _ c.in-Ok.ensures.done
+
+pub returns-in-Err-clause-counted : goal.returns-in-Err-clause-counted
+returns-in-Err-clause-counted g c is = absurd (fault_not_done c.in-Err.fault (rw c.tell.ensures.status at is))
+
+pub returns-in-Err-clause-selfrun : goal.returns-in-Err-clause-selfrun
+returns-in-Err-clause-selfrun g c is none = rw c.tell.ensures.status (selfrun_ends _ _ _ _ c.run.ensures.counts c.tell.ensures.counts none _ c.in-Err.ensures.fault is)

@@ -17,3 +17,6 @@ returns-in-Err-run_exclude-clause-left g c = rw c.in-Exclude.is c.in-Err-run_exc
 
 pub returns-in-Err-run_restore-clause-left : goal.returns-in-Err-run_restore-clause-left
 returns-in-Err-run_restore-clause-left g c = rw c.in-Restore.is c.in-Err-run_restore.ensures.left
+
+pub returns-in-Err-run_selfrun-clause-left : goal.returns-in-Err-run_selfrun-clause-left
+returns-in-Err-run_selfrun-clause-left g c = rw c.in-Selfrun.is c.in-Err-run_selfrun.ensures.left

@@ -1,0 +1,8 @@
+/// The values of a `selfrun` command.
+#[derive(Clone, Copy, Debug, PartialEq, Eq)]
+pub struct SelfrunWords {
+    /// The number from which the inputs follow.
+    pub number: u32,
+    /// How many steps there are, from 1 to a million.
+    pub steps: u32,
+}

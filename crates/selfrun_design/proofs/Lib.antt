@@ -1,0 +1,5 @@
+pub mod Tokens
+pub mod Modules
+pub mod Spelled
+pub mod Flat
+pub mod CodeDesign

@@ -1,0 +1,2 @@
+pub mod Selfrun
+pub mod Source

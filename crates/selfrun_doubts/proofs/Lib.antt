@@ -1,0 +1,4 @@
+pub mod Wakes
+pub mod Known
+pub mod Words
+pub mod Certain

@@ -1,0 +1,10 @@
+pub mod Source
+pub mod Inputs
+pub mod Registers
+pub mod Samples
+pub mod Text
+pub mod Dump
+pub mod Input
+pub mod Files
+pub mod Worked
+pub mod Moments

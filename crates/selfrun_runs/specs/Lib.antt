@@ -1,0 +1,4 @@
+pub mod Signals
+pub mod Says
+pub mod Shown
+pub mod Worked
