@@ -117,7 +117,7 @@ fn failures(alloc: Global, command: &Command, named: &str) -> Option<(u64, u64)>
             return None;
         }
         if end.host.warned() == named.as_bytes() {
-            lines += 1;
+            lines = lines.saturating_add(1);
         }
     }
     None
