@@ -6,7 +6,7 @@ pub(crate) const FAULTS: &[(&[&str], &str)] = &[
     (&[], "no command"),
     (&[""], "unknown command "),
     (&["-t", "ff", "score"], "unknown command -t"),
-    (&["selfrun", "1", "2"], "unknown command selfrun"),
+    (&["simulate", "1", "2"], "unknown command simulate"),
     (&["frob"], "unknown command frob"),
     (&["score", "-G", "ctl=st,st"], "unknown word -G"),
     (&["score", "-t", "ff", "zzz", "-t"], "unknown word zzz"),
