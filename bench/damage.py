@@ -90,7 +90,8 @@ class Worker:
 
     def read_again(self, words):
         """The faults of a report and of a tracefile of the database that was written."""
-        name = os.fsencode(output_of(words))
+        # a name that begins with a dash is no option
+        name = os.path.join(b".", os.fsencode(output_of(words)))
         for more in ([b"report", b"-d", b"v", b"-m", b"ltcfm", name], [b"lcov", b"-o", b"tracefile", name]):
             done, found = self.call(more, tree("."))
             yield from [("again", done.shown())] if done.status else found

@@ -2,8 +2,8 @@
 import os
 import re
 
-VALUES = {b"score": (b"-t", b"-i", b"-v", b"-vcd", b"-o", b"-D", b"-I", b"-states"), b"merge": (b"-o",),
-          b"report": (b"-d", b"-m", b"-o"), b"lcov": (b"-o",)}
+VALUES = {b"score": (b"-t", b"-i", b"-v", b"-vcd", b"-o", b"-D", b"-I", b"-states", b"-F"), b"merge": (b"-o",),
+          b"report": (b"-d", b"-m", b"-o"), b"lcov": (b"-o",), b"exclude": (b"-o", b"-point"), b"restore": (b"-o", b"-point")}
 NAMES = {
     "lex": ["BadByte", "BadNumber", "OpenComment", "OpenCondition", "UnknownDirective", "UnknownMacro", "MacroDepth",
             "TooManyTokens", "IncludeMissing", "SourcesTooLong", "TooManySources"],
@@ -14,7 +14,7 @@ NAMES = {
     "points": ["NoState", "SameState", "TooManyPoints", "TooManyStates", "NoMachine"],
     "dump": ["BadHeader", "BadChange", "UnknownCode", "VectorTooLong", "TimeBack", "Truncated", "LongCode", "Gap", "DeepScope",
              "DumpTooLong", "TimeTooLarge", "HeaderTooLong"],
-    "database": ["BadLine", "WrongVersion", "WrongCount", "DesignsDiffer", "DbTooLong"],
+    "database": ["BadLine", "WrongVersion", "WrongCount", "DesignsDiffer", "DbTooLong", "NoPoint", "AlreadyOut", "NotOut"],
 }
 CALLS = "open_read|read|open_write|write|close_write|print"
 DOTTED = r"[A-Za-z_][\w$]*(?:\.[A-Za-z_][\w$]*)*"
@@ -33,13 +33,19 @@ def line_of(pattern):
 STAGES = "|".join(f"{stage} {numbered(stage)}" for stage in ("lex", "parse", "const", "elab", "points"))
 LINES = {
     1: line_of(r"covered: usage: (?:no command|(?:unknown command|unknown word|bad value) (?P<word>.*)|(?P<given>.*) given twice"
-               r"|(?P<needs>-\w+) needs a value|missing (?:-t|-i|-v|-vcd|-o|file))"),
+               r"|(?P<needs>-\w+) needs a value|missing (?:-t|-i|-v|-vcd|-o|-point|file|NUMBER|STEPS))"),
     2: line_of(rf"covered: source: (?:{STAGES}|early)(?: (?P<detail>[^\n]*?))?(?: at (?P<file>[^\n]*):(?P<line>\d+):(?P<column>\d+))?"),
     3: line_of(rf"covered: dump: (?:{numbered('dump')} at byte (?P<byte>\d+)|bind (?:1 NoInstance [^\n]+|3 NoBaseline {DOTTED}))"),
     4: line_of(rf"covered: contradiction: {DOTTED} at \d+: dumped (?P<dumped>[01xz]+), computed (?P<computed>[01xz?]+)"),
     5: line_of(rf"covered: files: (?P<call>{CALLS}) (?P<name>[^\n]+)"),
     6: line_of(r"covered: memory"),
-    7: line_of(rf"covered: database: (?P<name>[^\n]+): {numbered('database')}(?: (?P<line>\d+))?(?P<both>\n< [^\n]*\n> [^\n]*)?"),
+    7: line_of(rf"covered: database: (?P<name>[^\n]+): {numbered('database')}(?: (?P<line>\d+)| (?P<address>[^\n]+))?(?P<both>\n< [^\n]*\n> [^\n]*)?"),
+}
+
+PRINTS = {
+    b"report": rb"covered report 1\ntop [^\n]+\n(?:[^\n]*\n)*all [^\n]*\n\Z",
+    b"rank": rb"covered rank 1\n(?:use \d+ \d+ [^\n]+\n)*(?:skip [^\n]+\n)*hit \d+ of \d+\n\Z",
+    b"selfrun": rb"covered selfrun 1\ntimes \d+\npoints \d+\nhit \d+\nmissed \d+\nundetermined 0\n\Z",
 }
 
 
@@ -99,8 +105,9 @@ def message_faults(run, words, files):
     if run.status == 2:
         yield from place_faults(found, words, files)
     if run.status == 3 and found["byte"]:
-        dumps = [files.get(os.path.normpath(os.fsdecode(it)), b"") for it in values(words, b"-vcd")]
-        if all(int(found["byte"]) > len(it) for it in dumps):
+        # a device has no end
+        dumps = [files.get(os.path.normpath(os.fsdecode(it))) for it in values(words, b"-vcd")]
+        if all(it is not None and int(found["byte"]) > len(it) for it in dumps):
             yield "place", "a byte behind the end of the dump"
     if run.status == 4 and len(found["dumped"]) != len(found["computed"]):
         yield "message", "values of two lengths"
@@ -135,12 +142,12 @@ def file_faults(run, words, before, after):
 
 def print_faults(run, words):
     """What is wrong with the standard output."""
-    report = run.status == 0 and words and words[0] == b"report" and output_of(words) is None
-    if not report:
+    printed = PRINTS.get(words[0]) if run.status == 0 and words and output_of(words) is None else None
+    if printed is None:
         if run.out:
             yield "print", "something was printed"
-    elif not re.match(rb"covered report 1\ntop [^\n]+\n(?:[^\n]*\n)*all [^\n]*\n\Z", run.out):
-        yield "print", "no report was printed"
+    elif not re.match(printed, run.out):
+        yield "print", f"no {os.fsdecode(words[0])} was printed"
 
 
 def faults(run, words, before, after, limits):
