@@ -3,18 +3,19 @@
 
     bench/damage.py PROGRAM [--runs N] [--seed S] [--out FOLDER] [--jobs J] [--minutes M] [--checks] [--only WORD]
 
-Each run takes the call of an example case, or a report, a tracefile or a merge of a database that a case expects, and damages its
+Each run takes the call of an example case, or one of every other command over a database that a case expects, and damages its
 sources, dumps, databases or words: bytes flipped, lines dropped, doubled and exchanged, numbers made huge, files cut and joined,
 parts nested, pieces of the languages put in, often several of these. Checked is:
 
 - the status is from 0 to 7, and no signal ends the run;
 - the processor time is at most two seconds, or five with `--checks`, for a build with checks at run time, and the resident memory
-  at most 512 MB; the damaged files have at most a megabyte, or 30,000 bytes with `--checks`;
+  at most 512 MB; the damaged files have at most a megabyte, or 30,000 bytes with `--checks`; a database word that is `/dev/full`
+  gives bytes up to the limit of a database, so there it is five times as long and 3 GB;
 - the warning output is empty with the status 0, and else the line of that status in its documented form, with a place that the
   named file has;
 - the output file is as it was with another status than 0, except where the system refused to write it; no other file of the
   folder is changed, made or removed; and nothing is printed but a report;
-- what was written with the status 0 is read again: one database in ten by a report and a tracefile.
+- what was written with the status 0 is read again: one database in ten by a report, and a plain one by a tracefile.
 
 Run N of seed S is run 1 of seed S + N - 1. Runs have folders in /dev/shm where there is one. A finding is kept in FOLDER with its
 files, and its words and faults in `fault.txt`, for the first runs of each kind of fault and status. At the end the statuses are
@@ -32,15 +33,17 @@ import sys
 import tempfile
 import time
 
-from hostile.checks import faults, output_of
+from hostile.checks import databases, faults, output_of
 from hostile.child import run
 from hostile.examples import examples, kind, tree
 from hostile.mutation import damaged, damaged_words, safe
 
 BATCH = 50
 KEPT = 5
-SHARES = {"score": 14, "report": 2, "lcov": 2, "merge": 2}
+SHARES = {"score": 14, "report": 2, "lcov": 2, "merge": 2, "rank": 1, "exclude": 1, "restore": 1, "selfrun": 1}
+WRITERS = (b"score", b"merge", b"exclude", b"restore")
 HERE = os.path.dirname(os.path.abspath(__file__))
+Limits = collections.namedtuple("Limits", "seconds megabytes")
 
 
 class Worker:
@@ -82,17 +85,27 @@ class Worker:
         os.makedirs(self.folder, exist_ok=True)
         os.chdir(self.folder)
 
+    def limits(self, words):
+        """The limits of a call."""
+        # The device gives bytes without end. A database may have 2 GB, so the program reads so many, and keeps them, before it refuses the
+        # file for its length: that is the limit which it promises, and no damaged file of a megabyte comes near it. So such a call may
+        # cost what these bytes cost. Its status and its line are checked as those of every call.
+        if b"/dev/full" in databases(words):
+            return Limits(5 * self.options.seconds, 3 * 1024)
+        return Limits(self.options.seconds, 512)
+
     def call(self, words, before):
         """A run in the present folder, with its faults."""
-        limits = self.options
-        done = run(limits.program, words, self.base, seconds=4 * limits.seconds, megabytes=4 * limits.megabytes)
+        limits = self.limits(words)
+        done = run(self.options.program, words, self.base, seconds=4 * limits.seconds, megabytes=4 * limits.megabytes)
         return done, list(faults(done, words, before, tree("."), limits))
 
     def read_again(self, words):
-        """The faults of a report and of a tracefile of the database that was written."""
+        """The faults of a report of the database that was written, and of a tracefile where it is a plain one."""
         # a name that begins with a dash is no option
         name = os.path.join(b".", os.fsencode(output_of(words)))
-        for more in ([b"report", b"-d", b"v", b"-m", b"ltcfm", name], [b"lcov", b"-o", b"tracefile", name]):
+        tracefile = [[b"lcov", b"-o", b"tracefile", name]] * (words[0] in (b"score", b"merge"))
+        for more in ([b"report", b"-d", b"v", b"-m", b"ltcfm", name], *tracefile):
             done, found = self.call(more, tree("."))
             yield from [("again", done.shown())] if done.status else found
 
@@ -103,7 +116,7 @@ class Worker:
             return None
         self.lay(files)
         done, found = self.call(words, files)
-        if seed % 10 == 0 and done.status == 0 and words[0] in (b"score", b"merge") and os.path.isfile(output_of(words)):
+        if seed % 10 == 0 and done.status == 0 and words[0] in WRITERS and os.path.isfile(output_of(words)):
             found += self.read_again(words)
         if found:
             self.keep(seed, name, words, files, done, found)
@@ -196,9 +209,9 @@ def main():
     parser.add_argument("--jobs", type=int, default=1)
     parser.add_argument("--checks", action="store_true", help="the program is a build with checks at run time")
     parser.add_argument("--minutes", type=float, default=1e6, help="at most so long")
-    parser.add_argument("--only", choices=("score", "merge", "report", "lcov"))
+    parser.add_argument("--only", choices=SHARES)
     options = parser.parse_args()
-    options.seconds, options.megabytes = 5 if options.checks else 2, 512
+    options.seconds = 5 if options.checks else 2
     options.longest = 30000 if options.checks else 1 << 20
     start = time.monotonic()
     shared = "/dev/shm" if os.path.isdir("/dev/shm") else None

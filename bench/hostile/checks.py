@@ -4,9 +4,10 @@ import re
 
 VALUES = {b"score": (b"-t", b"-i", b"-v", b"-vcd", b"-o", b"-D", b"-I", b"-states", b"-F"), b"merge": (b"-o",),
           b"report": (b"-d", b"-m", b"-o"), b"lcov": (b"-o",), b"exclude": (b"-o", b"-point"), b"restore": (b"-o", b"-point")}
+COMMANDS = (b"merge", b"report", b"lcov", b"rank", b"exclude", b"restore")
 NAMES = {
     "lex": ["BadByte", "BadNumber", "OpenComment", "OpenCondition", "UnknownDirective", "UnknownMacro", "MacroDepth",
-            "TooManyTokens", "IncludeMissing", "SourcesTooLong", "TooManySources"],
+            "TooManyTokens", "IncludeMissing", "SourcesTooLong", "TooManySources", "ExpansionTooLong"],
     "parse": ["Unexpected", "EarlyEnd", "TooDeep", "LeftOut"],
     "const": ["NotConstant", "TooWide", "LoopNotConstant", "LoopTooLong", "BadRange"],
     "elab": ["NoModule", "TwoModules", "Recursion", "Undeclared", "TwiceDeclared", "PortMismatch", "TwoDrivers", "MixedAssign",
@@ -14,7 +15,8 @@ NAMES = {
     "points": ["NoState", "SameState", "TooManyPoints", "TooManyStates", "NoMachine"],
     "dump": ["BadHeader", "BadChange", "UnknownCode", "VectorTooLong", "TimeBack", "Truncated", "LongCode", "Gap", "DeepScope",
              "DumpTooLong", "TimeTooLarge", "HeaderTooLong"],
-    "database": ["BadLine", "WrongVersion", "WrongCount", "DesignsDiffer", "DbTooLong", "NoPoint", "AlreadyOut", "NotOut"],
+    "database": ["BadLine", "WrongVersion", "WrongCount", "DesignsDiffer", "DbTooLong"],
+    "point": ["", "", "", "", "", "NoPoint", "AlreadyOut", "NotOut"],
 }
 CALLS = "open_read|read|open_write|write|close_write|print"
 DOTTED = r"[A-Za-z_][\w$]*(?:\.[A-Za-z_][\w$]*)*"
@@ -22,7 +24,7 @@ DOTTED = r"[A-Za-z_][\w$]*(?:\.[A-Za-z_][\w$]*)*"
 
 def numbered(stage):
     """An expression for the number and the name of each fault of a stage."""
-    return "(?:" + "|".join(f"{number} {name}" for number, name in enumerate(NAMES[stage], 1)) + ")"
+    return "(?:" + "|".join(f"{number} {name}" for number, name in enumerate(NAMES[stage], 1) if name) + ")"
 
 
 def line_of(pattern):
@@ -39,7 +41,8 @@ LINES = {
     4: line_of(rf"covered: contradiction: {DOTTED} at \d+: dumped (?P<dumped>[01xz]+), computed (?P<computed>[01xz?]+)"),
     5: line_of(rf"covered: files: (?P<call>{CALLS}) (?P<name>[^\n]+)"),
     6: line_of(r"covered: memory"),
-    7: line_of(rf"covered: database: (?P<name>[^\n]+): {numbered('database')}(?: (?P<line>\d+)| (?P<address>[^\n]+))?(?P<both>\n< [^\n]*\n> [^\n]*)?"),
+    7: line_of(rf"covered: database: (?P<name>[^\n]+): (?:{numbered('point')} [^\n]+"
+               rf"|{numbered('database')}(?: (?P<line>\d+))?(?P<both>\n< [^\n]*\n> [^\n]*)?)"),
 }
 
 PRINTS = {
@@ -64,6 +67,17 @@ def output_of(words):
     """The name of the file that a command may write, or none."""
     found = values(words, b"-o")
     return os.path.normpath(os.fsdecode(found[0])) if found and found[0] else None
+
+
+def databases(words):
+    """The words of a command that name databases to be read."""
+    found, rest = [], iter(words[1:] if words and words[0] in COMMANDS else [])
+    for word in rest:
+        if word in VALUES.get(words[0], ()):
+            next(rest, None)
+        else:
+            found.append(word)
+    return found
 
 
 def is_utf8(words):

@@ -1,4 +1,4 @@
-"""Ideas for elaboration, for the points, for dumps, for the replay and for databases."""
+"""Ideas for elaboration, for the points, for dumps, for the replay, for databases and for what is made of them."""
 from .ideas import HEAD, code, dump, enters, many, module
 
 IDEAS = {}
@@ -311,26 +311,6 @@ def variables_in_a_scope_of_a_long_name(n):
 
 
 @idea(*LIST)
-def signals_of_one_code(n):
-    names = "".join(f"$var wire 1 ! w{k} $end\n" for k in range(n))
-    return with_dump(f"$scope module tb $end $var wire 1 ! a $end\n{names}$enddefinitions $end\n#0 0!\n"
-                     + "".join(f"#{k + 1} {k % 2}!\n" for k in range(n // 10)), module("wire " + many(n, "w% = a", ", ") + ";"))
-
-
-@idea(*LIST)
-def scopes_in_a_row(n):
-    return with_dump("$scope module tb $end $var wire 1 ! a $end\n" + many(n, "$scope module s% $end $upscope $end\n")
-                     + "$enddefinitions $end\n#0 0!\n")
-
-
-@idea(1000, 2000, 4000, 8000)
-def variables_in_a_scope_of_a_long_name(n):
-    scope = "$scope module " + "x" * n + " $end\n"
-    return with_dump("$scope module tb $end $var wire 1 ! a $end\n" + scope + "$var wire 1 ! b $end\n" * (n // 20)
-                     + "$enddefinitions $end\n#0 0!\n")
-
-
-@idea(*LIST)
 def variables_of_equal_hash(n):
     # the bytes 8 to 16 are the multiplier of the library's hash of texts, so that the eight before do not count
     names = "".join(f"$var wire 1 ! {k:08}\x15\x7c\x4a\x7f\xb9\x79\x37\x9e{'x' * 17} $end\n" for k in range(n))
@@ -425,3 +405,72 @@ def tracefile_of_sources_backwards(n):
 def merge_of_files(n):
     text = database(0, [f"t m a {k} 01 = ? {k} m.a" for k in range(40)])
     return {f"b{k}": text for k in range(n)}, ["merge", "-o", "B", *(f"b{k}" for k in range(n))]
+
+
+def toggles(count):
+    """The addresses of so many points."""
+    return [f"t m a {k} 01" for k in range(count)]
+
+
+def with_windows(text, lines):
+    """A database of version 2 with windows, of one of version 1."""
+    return text.replace("covered-db 1", "covered-db 2").replace("end\n", f"windows {len(lines)}\n{''.join(lines)}end\n")
+
+
+def excluded(addresses, text):
+    """A database with excluded points."""
+    return f"covered-ex 1\nexcluded {len(addresses)}\n" + "".join(f"{it}\n" for it in addresses) + with_windows(text, [])
+
+
+@idea(20, 40, 80, 160)
+def ranking_of_files(n):
+    files = {f"b{k}": database(0, [f"t m a {it} 01 = {'hit' if (it + k) % n < 3 else 'missed'}" for it in range(160)]) for k in range(n)}
+    return files, ["rank", *files]
+
+
+@idea(*LIST)
+def points_excluded_in_words(n):
+    words = [word for it in toggles(n) for word in ("-point", it)]
+    return {"B": database(0, [f"{it} = missed" for it in toggles(n)])}, ["exclude", "-o", "O", *words, "B"]
+
+
+@idea(*LIST)
+def points_restored_in_words(n):
+    words = [word for it in reversed(toggles(n)) for word in ("-point", it)]
+    text = database(0, [f"{it} = missed" for it in toggles(n)])
+    return {"B": excluded(toggles(n), text)}, ["restore", "-o", "O", *words, "B"]
+
+
+@idea(*LIST)
+def report_of_excluded_points(n):
+    text = database(0, [f"{it} = missed" for it in toggles(n)])
+    return {"B": excluded(toggles(n), text)}, REPORT
+
+
+def windows(pairs):
+    """A database of one point with windows."""
+    return with_windows(database(0, ["t m a - 01 = missed"]), [f"window {first} {last}\n" for first, last in pairs])
+
+
+@idea(*LIST)
+def windows_of_a_merge(n):
+    files = {"b0": windows([(2 * k, 2 * k + 9) for k in range(n)]), "b1": windows([(2 * k + 1, 2 * k + 9) for k in range(n)])}
+    return files, ["merge", "-o", "O", *files]
+
+
+@idea(64, 256, 1023)
+def stretches_of_a_dump(n):
+    gaps = (f"#{20 + 3 * k} $dumpoff x! $end\n#{21 + 3 * k} $dumpon 1! $end\n#{22 + 3 * k} 0!\n" for k in range(n))
+    return with_dump(dump(["a"], more="".join(gaps)), module("wire y = a;"))
+
+
+@idea(64, 128, 256, 512)
+def missing_inputs_at_many_times(n):
+    ports = f"input a, {many(n, 'input p%', ', ')}"
+    return with_dump(dump(["a"], more="".join(f"#{20 + 2 * k} {k % 2}!\n" for k in range(n))),
+                     module(many(n, "wire w% = a & p%;\n"), ports))
+
+
+@idea(1000, 4000, 16000)
+def steps_of_a_selfrun(n):
+    return {}, ["selfrun", "7", str(n)]

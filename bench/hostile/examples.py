@@ -1,9 +1,11 @@
 """The example cases as words and files, with what can be run on the databases that they expect."""
 import os
+import re
 import tomllib
 
-COMMANDS = ("score", "merge", "report", "lcov")
+COMMANDS = ("score", "merge", "report", "lcov", "rank", "exclude", "restore", "selfrun")
 LONGEST = 20000
+POINT = re.compile(rb"^([ltcfm] .*) = ", re.MULTILINE)
 
 
 class Example:
@@ -27,14 +29,24 @@ def tree(folder, skip=()):
 
 
 def of_databases(name, files):
-    """Calls over the databases among some files: reports in several forms, a tracefile, and merges."""
-    texts = [text for text in files.values() if text.startswith(b"covered-db 1\n")]
+    """Calls over the databases among some files: reports in several forms, a tracefile, merges, rankings and excluded points."""
+    texts = [text for text in files.values() if text.startswith(b"covered-db ")]
     for text in texts[:1]:
         one = {"a.db": text}
         yield Example(f"{name}: report", ["report", "-d", "v", "-m", "ltcfm", "a.db"], one)
         yield Example(f"{name}: report -i", ["report", "-i", "-c", "-d", "d", "-o", "B", "a.db"], one)
         yield Example(f"{name}: lcov", ["lcov", "-o", "B", "a.db"], one)
         yield Example(f"{name}: merge", ["merge", "-o", "B", "a.db", "b.db"], {"a.db": text, "b.db": texts[-1]})
+        yield Example(f"{name}: rank", ["rank", "a.db", "b.db"], {"a.db": text, "b.db": texts[-1]})
+        points = POINT.findall(text)[:2]
+        words = [word for address in points for word in ("-point", address.decode())]
+        if points:
+            yield Example(f"{name}: exclude", ["exclude", "-o", "B", *words, "a.db"], one)
+        # excluded points are in texts of version 2 alone
+        if points and text.startswith(b"covered-db 2\n"):
+            excluded = b"covered-ex 1\nexcluded %d\n%s\n" % (len(points), b"\n".join(points)) + text
+            yield Example(f"{name}: restore", ["restore", "-o", "B", *words[:2], "a.db"], {"a.db": excluded})
+            yield Example(f"{name}: report of excluded", ["report", "-d", "v", "a.db"], {"a.db": excluded})
 
 
 def of_case(folder, name):
@@ -59,6 +71,6 @@ def examples(folder):
 
 def kind(text):
     """What a file is, by its first bytes: a database, a dump or a source."""
-    if text.startswith(b"covered-db"):
+    if text.startswith((b"covered-db", b"covered-ex")):
         return "database"
     return "dump" if text.lstrip().startswith(b"$") else "source"
