@@ -35,8 +35,8 @@ LONG = {"conditions-nest": 100000, "elsif-list": 100000, "defines-and-uses": 100
         "list-of-arms": 10000, "registers-of-one-clock": 10000, "ripple-of-clocks": 1000, "registers-that-chain-by-blocking": 1000,
         "undecided-ifs-in-a-row": 10000, "variables-of-a-dump": 100000, "scopes-in-a-row": 100000, "report-of-points": 100000,
         "report-of-instances": 10000, "tracefile-of-points-of-a-line": 10000, "merge-of-files": 500}
-OTHERS = (["merge", "-o", "O", "B", "B2"], ["report", "-d", "v", "-m", "ltcfm", "B"], ["report", "-i", "-d", "d", "-o", "O", "B"],
-          ["rank", "B", "B2"], ["lcov", "-o", "O", "B"])
+OTHERS = (["merge", "-o", "O", "B", "C"], ["report", "-d", "v", "-m", "ltcfm", "B"], ["report", "-i", "-d", "d", "-o", "O", "B"],
+          ["rank", "B", "C"], ["lcov", "-o", "O", "B"])
 
 
 class Machine:
@@ -110,7 +110,7 @@ def one_point(text):
 def after(machine, written, step):
     """The least size for all calls over a database that was written."""
     text = written.decode()
-    machine.lay({"B": text, "B2": text})
+    machine.lay({"B": text, "C": text})
     calls = [*OTHERS, ["exclude", "-o", "E", "-point", one_point(written), "B"], ["restore", "-o", "O", "-point", one_point(written), "E"]]
     sizes = []
     for words in calls:
