@@ -7,7 +7,7 @@ VALUES = {b"score": (b"-t", b"-i", b"-v", b"-vcd", b"-o", b"-D", b"-I", b"-state
 COMMANDS = (b"merge", b"report", b"lcov", b"rank", b"exclude", b"restore")
 NAMES = {
     "lex": ["BadByte", "BadNumber", "OpenComment", "OpenCondition", "UnknownDirective", "UnknownMacro", "MacroDepth",
-            "TooManyTokens", "IncludeMissing", "SourcesTooLong", "TooManySources"],
+            "TooManyTokens", "IncludeMissing", "SourcesTooLong", "TooManySources", "ExpansionTooLong"],
     "parse": ["Unexpected", "EarlyEnd", "TooDeep", "LeftOut"],
     "const": ["NotConstant", "TooWide", "LoopNotConstant", "LoopTooLong", "BadRange"],
     "elab": ["NoModule", "TwoModules", "Recursion", "Undeclared", "TwiceDeclared", "PortMismatch", "TwoDrivers", "MixedAssign",

@@ -1,4 +1,6 @@
 ghost use Rattle.std.specs.Prelude.{◌≡◌};
+ghost use Rattle.std.specs.List.{flat_map};
+ghost use Rattle.cover_points.specs.FaultText.{point_text};
 ghost use Rattle.cover_points.specs.Faults.{point_fault};
 ghost use Rattle.cover_points.specs.declared.fault.PointFault.TheVariants as point_fault_of;
 
@@ -17,6 +19,23 @@ pub enum PointFault {
     TooManyPoints,
     /// The machine of the variable of this name has fewer than two states, or more than `design_machines::MOST_STATES`.
     TooManyStates(Name),
+}
+
+impl PointFault {
+    /// The text of the fault, in two pieces, so that it can be written without memory.
+    pub fn pieces(&self) -> [&[u8]; 2]
+        ensures { flat_map (λ piece. piece.now) result ≡ point_text self.now }
+    {
+        match self {
+            PointFault::NoMemory => ["memory".as_bytes(), "".as_bytes()],
+            PointFault::NoState(name) => ["points 1 NoState ".as_bytes(), name.as_slice()],
+            PointFault::SameState(name) => ["points 2 SameState ".as_bytes(), name.as_slice()],
+            PointFault::TooManyPoints => ["points 3 TooManyPoints".as_bytes(), "".as_bytes()],
+            PointFault::TooManyStates(name) => {
+                ["points 4 TooManyStates ".as_bytes(), name.as_slice()]
+            }
+        }
+    }
 }
 
 impl From<NoMemory> for PointFault {

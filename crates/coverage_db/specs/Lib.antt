@@ -10,3 +10,4 @@ pub mod Faults
 pub mod Same
 pub mod Joining
 pub mod Merge
+pub mod FaultText

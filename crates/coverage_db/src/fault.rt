@@ -1,4 +1,5 @@
 ghost use Rattle.std.specs.Prelude.{◌≡◌};
+ghost use Rattle.coverage_db.specs.FaultText.{kind_text};
 ghost use Rattle.coverage_db.specs.declared.fault.DbFault.TheVariants as db_fault;
 ghost use Rattle.coverage_db.specs.declared.fault.MergeFault.TheVariants as merge_fault;
 
@@ -16,6 +17,20 @@ pub enum DbKind {
     WrongCount,
     /// The text is longer than 2,147,483,648 bytes.
     DbTooLong,
+}
+
+impl DbKind {
+    /// The number and the name, as messages have them.
+    pub fn text(self) -> &'static str
+        ensures { result.now ≡ kind_text self }
+    {
+        match self {
+            DbKind::BadLine => "1 BadLine",
+            DbKind::WrongVersion => "2 WrongVersion",
+            DbKind::WrongCount => "3 WrongCount",
+            DbKind::DbTooLong => "5 DbTooLong",
+        }
+    }
 }
 
 /// Why a database was not read.

@@ -24,13 +24,11 @@ use Rattle.database_commands.specs.Tracing.{IsLcovFault}
 use Rattle.database_commands.specs.declared.fault.CommandFault.{CommandFault}
 use Rattle.database_commands.specs.declared.fault.CommandFault.TheVariants as database_fault
 use Rattle.covered_cli.specs.Covered.{HasContradiction, IsNoCommand, IsSomeCommand, KeepsUnnamed, PrintsText, output_in}
-use Rattle.covered_cli.specs.Databases.{database_status}
+use Rattle.covered_cli.specs.FaultStatus.{database_status, points_status, source_status}
 use Rattle.covered_cli.specs.PointCommands.{points_command}
 use Rattle.covered_cli.specs.Fault.{IsDatabaseFault, IsPrintingFault, Stands, StandsIn, StandsInDatabases, StandsInWork, output_of, status_of}
 use Rattle.source_design.specs.declared.fault.SourceFault.{SourceFault}
 use Rattle.source_design.specs.declared.fault.SourceFault.TheVariants as source_fault
-use Rattle.covered_cli.specs.PointsMessage.{points_status}
-use Rattle.covered_cli.specs.SourceMessage.{source_status}
 use Rattle.design_points.specs.cover_points.declared.fault.PointFault.{PointFault}
 use Rattle.design_points.specs.cover_points.declared.fault.PointFault.TheVariants as point_fault
 use Rattle.covered_cli.specs.declared.fault.Fault.{Fault}

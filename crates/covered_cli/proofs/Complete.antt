@@ -21,7 +21,7 @@ use Rattle.vcd_reader.specs.Dump.{Dump, IsDump, SaysBody}
 use Rattle.vcd_reader.specs.Reading.{Body}
 use Rattle.dump_score.specs.verdict_laws.Sound.{IsShownBy}
 use Rattle.verilog_lexer.specs.Sources.{SourceText}
-use Rattle.whole_files.specs.Effects.{CountsUp, IsMissing}
+use Rattle.whole_files.specs.Effects.{CountsUp, IsMissing, WarnsLine}
 use Rattle.whole_files.proofs.EffectLemmas.{IsCounted-later}
 use Rattle.whole_files.specs.declared.call.Call.{Call}
 use Rattle.whole_files.specs.declared.call.Call.TheVariants.{OpenRead, Read, OpenWrite, Write, CloseWrite}
@@ -34,16 +34,15 @@ use Rattle.covered_cli.proofs.Causes.{command_or_fault, score_or_databases, scor
 use Rattle.covered_cli.proofs.GoodDumps.{not_contradicted, not_refused, same_bound, same_shown}
 use Rattle.covered_cli.specs.Complete.{EndsWith, HasBadDump, HasBadSource, HasText, HasUnboundDump, HaveTexts, IsCommandWith, IsGoodScore, IsOfBinding, LacksPoints, NoFaults, RefusesBinding, RefusesDump, RefusesPoints}
 use Rattle.covered_cli.specs.Drawing.{IsNoMachineOf}
-use Rattle.covered_cli.specs.Effects.{WarnsLine}
+use Rattle.covered_cli.specs.FaultStatus.{points_status, source_status}
 use Rattle.covered_cli.specs.Fault.{NamesFile, Stands, line_of, status_of}
 use Rattle.whole_files.specs.Refusals.{IsRefused}
 use Rattle.covered_cli.proofs.Designs.{lawful_design}
-use Rattle.covered_cli.specs.PointsMessage.{points_line, points_status}
+use Rattle.covered_cli.specs.PointsMessage.{points_line}
 use Rattle.covered_cli.specs.ScoreMachines.{AreMachinesOf, habit_in}
 use Rattle.covered_cli.proofs.Machines.{alike_machines, none_refused}
 use Rattle.covered_cli.specs.ScoreSources.{sources_in}
 use Rattle.covered_cli.specs.Scoring.{HasDesign, HasNoMachine, HasNoScore, HasPointsFault, HasSomeDesign, IsContradictedDump, IsContradictedText, IsDone, IsDoneBy, IsDoneIn, IsDumpRefusal, IsRefusedDump}
-use Rattle.covered_cli.specs.SourceMessage.{source_status}
 use Rattle.covered_cli.specs.declared.contradiction.Contradiction.{Contradiction}
 use Rattle.covered_cli.specs.declared.dump_refusal.DumpRefusal.{DumpRefusal}
 use Rattle.covered_cli.specs.declared.dump_refusal.DumpRefusal.TheVariants as refusal

@@ -35,7 +35,7 @@ use Rattle.whole_files.proofs.Refusals.{refused_later}
 use Rattle.whole_files.specs.Refusals.{IsRefused}
 use Rattle.covered_cli.specs.Complete.{EndsWith, NoFaults}
 use Rattle.covered_cli.specs.Covered.{HasDatabaseCause, HasEarlyStatus, HasFilesCause, HasGoodDatabases, IsIncluded, IsInput}
-use Rattle.covered_cli.specs.Databases.{database_status}
+use Rattle.covered_cli.specs.FaultStatus.{database_status, points_status, source_status}
 use Rattle.covered_cli.specs.Fault.{IsEarly, NamesFile, Stands, StandsInDatabases, status_of}
 use Rattle.source_files.specs.Joining.{IsRefusedCall}
 use Rattle.source_design.proofs.Gathering.{root_named}
@@ -44,8 +44,6 @@ use Rattle.source_design.specs.Words.{SourceValues}
 use Rattle.source_design.specs.declared.fault.SourceFault.{SourceFault}
 use Rattle.source_design.specs.declared.fault.SourceFault.TheVariants as source_fault
 use Rattle.covered_cli.specs.ScoreSources.{sources_in}
-use Rattle.covered_cli.specs.PointsMessage.{points_status}
-use Rattle.covered_cli.specs.SourceMessage.{source_status}
 use Rattle.design_points.specs.cover_points.declared.fault.PointFault.{PointFault}
 use Rattle.design_points.specs.cover_points.declared.fault.PointFault.TheVariants as point_fault
 use Rattle.covered_cli.specs.declared.fault.Fault.{Fault}

@@ -4,7 +4,6 @@ pub mod Complete
 pub mod Databases
 pub mod SourceNames
 pub mod Designs
-pub mod Lines
 pub mod Digits
 pub mod Machines
 pub mod DrawnMachines
@@ -14,4 +13,6 @@ pub mod Untouched
 pub mod Selfruns
 pub mod SelfrunGood
 pub mod Refusing
+pub mod ContradictionLine
+pub mod SignalPaths
 pub mod WordLists

@@ -1,10 +1,7 @@
 -- From the faults of the scoring to those of the program.
-use Rattle.std.proofs.Common.{◌≡◌, ℕ, ◌<◌, ◌+◌, ◌^◌, true, List, length, refl, sym, subst, arith}
-use Rattle.std.proofs.lemmas.Bool.{lt-ltb}
+use Rattle.std.proofs.Common.{ℕ, ◌<◌, List, length, refl, sym, subst}
 use Rattle.command_line.specs.CommandWords.{ScoreValues}
 use Rattle.cov_host.specs.Outside.{Outside}
-use Rattle.design_model.specs.Design.{Design as Tree, is_number}
-use Rattle.design_model.specs.Lawful.{IsLawfulDesign}
 use Rattle.design_model.specs.View.{design_view}
 use Rattle.design_model.specs.declared.design.Design.{Design}
 use Rattle.event_machine.specs.Habit.{Habit}
@@ -24,13 +21,6 @@ use Rattle.covered_cli.specs.Refusing.{IsBindRefusal, IsReplayRefusal}
 use Rattle.covered_cli.specs.declared.dump_refusal.DumpRefusal.TheVariants as refusal
 use Rattle.covered_cli.specs.declared.fault.Fault.{Fault}
 use Rattle.covered_cli.specs.declared.fault.Fault.TheVariants as fault
-
--- the number of a signal is one of a signal or memory, and has 32 bits
-pub signal_number : (d : Tree) (s : ℕ) → s < length d.signals → is_number d s ≡ true
-signal_number d s within = lt-ltb s (length d.signals + length d.memories) (omega (arith, within))
-
-pub small_number : (d : Tree) (s : ℕ) → IsLawfulDesign d → s < length d.signals → s < 2 ^ 32
-small_number d s lawful within = omega (arith, within, lawful.few_signals)
 
 named_signal : (habit : Habit) (design : Design) (vars : List Var) (instance : List ℕ) (entries : List Entry) (f : ReplayFault) → IsReplayFault habit design vars instance entries f → signal_of f < length design.signals
 named_signal habit design vars instance entries (replay_fault.NoBaseline s) is = is.listed
@@ -72,11 +62,11 @@ module _ (score : ScoreValues) (design : Design) (before after : Outside) where
   replay_refused (replay_fault.NoBaseline s) (fault.Dump (refusal.At kind byte)) same is = absurd same
   replay_refused (replay_fault.NoBaseline s) (fault.Dump (refusal.NoInstance path)) same is = absurd same
   replay_refused (replay_fault.NoBaseline s) (fault.Contradiction x) same is = absurd same
-  replay_refused (replay_fault.NoBaseline s) fault.Memory same is = tt
+  replay_refused (replay_fault.NoBaseline s) fault.Memory same is = absurd same
   replay_refused (replay_fault.Contradiction s time dumped computed) (fault.Contradiction x) same is =
       subst (λ x. IsScoringFault score design before after (fault.Contradiction x)) (sym same) (is.0, is.1, (s, refl, is.2))
   replay_refused (replay_fault.Contradiction s time dumped computed) (fault.Dump r) same is = absurd same
-  replay_refused (replay_fault.Contradiction s time dumped computed) fault.Memory same is = tt
+  replay_refused (replay_fault.Contradiction s time dumped computed) fault.Memory same is = absurd same
   replay_refused (replay_fault.NoBaseline s) (fault.Usage usage) same is = absurd same
   replay_refused (replay_fault.NoBaseline s) (fault.Source g) same is = absurd same
   replay_refused (replay_fault.NoBaseline s) (fault.NoMachine name) same is = absurd same

@@ -6,11 +6,9 @@ use Rattle.command_line.specs.CommandWords.{IsScore, ScoreValues}
 use Rattle.cov_host.specs.Outside.{HasFile, Outside, Told}
 use Rattle.whole_files.proofs.EffectLemmas.{Told-map}
 use Rattle.covered_cli.specs.Covered.{PrintsText}
-use Rattle.covered_cli.specs.Databases.{database_status}
+use Rattle.covered_cli.specs.FaultStatus.{database_status, points_status, source_status}
 use Rattle.covered_cli.specs.Fault.{status_of}
 use Rattle.covered_cli.specs.Headline.{IsUntouched}
-use Rattle.covered_cli.specs.PointsMessage.{points_status}
-use Rattle.covered_cli.specs.SourceMessage.{source_status}
 use Rattle.covered_cli.specs.declared.fault.Fault.{Fault}
 use Rattle.covered_cli.specs.declared.fault.Fault.TheVariants.{Usage, Source, NoMachine, Points as PointsFault, Dump, Contradiction, Files as FilesFault, Memory, Databases, Selfrun}
 use Rattle.covered_cli.specs.declared.selfrun_fault.SelfrunFault.TheVariants as selfrun_fault

@@ -13,7 +13,7 @@ use Rattle.signal_binding.specs.Binding.{HasInstance}
 use Rattle.vcd_reader.specs.Dump.{Dump as SpecDump, IsDump, SaysBody}
 use Rattle.vcd_reader.specs.Reading.{Body}
 use Rattle.covered_cli.specs.DumpRefusal.{refusal_line}
-use Rattle.covered_cli.specs.Effects.{WarnsLine}
+use Rattle.whole_files.specs.Effects.{WarnsLine}
 use Rattle.covered_cli.specs.PointsMessage.{machine_line, points_line}
 use Rattle.source_design.specs.Accepted.{StandFor}
 use Rattle.source_design.specs.Reading.{HasSources}

@@ -22,7 +22,7 @@ use Rattle.database_commands.specs.Reporting.{LeavesAll, LeavesFront}
 use Rattle.database_commands.specs.Tracing.{IsGoodLcov}
 use Rattle.source_design.specs.Reading.{LacksAt}
 use Rattle.covered_cli.specs.PointCommands.{points_command}
-use Rattle.covered_cli.specs.Effects.{WarnsLine}
+use Rattle.whole_files.specs.Effects.{WarnsLine}
 use Rattle.covered_cli.specs.Fault.{IsEarly, Stands, line_of, status_of}
 use Rattle.covered_cli.specs.ScoreSources.{sources_in}
 use Rattle.covered_cli.specs.Scoring.{IsContradictedDump, IsTextOf}

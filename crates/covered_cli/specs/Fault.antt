@@ -30,18 +30,19 @@ use Rattle.design_model.specs.Design.{Design as Tree}
 use Rattle.covered_cli.specs.PointCommands.{points_command}
 use Rattle.covered_cli.specs.Drawing.{IsNoMachineFor, IsNoMachineOf}
 use Rattle.design_points.specs.cover_points.Faults.{IsPointFault}
-use Rattle.whole_files.specs.Call.{call_name}
+use Rattle.database_commands.specs.FaultLine.{database_line}
+use Rattle.source_design.specs.FaultLine.{source_line}
+use Rattle.whole_files.specs.Call.{call_name, file_line}
 use Rattle.whole_files.specs.Refusals.{IsRefused}
 use Rattle.whole_files.specs.declared.call.Call.{Call}
 use Rattle.whole_files.specs.declared.call.Call.TheVariants.{OpenRead, Read, OpenWrite, Write, CloseWrite}
 use Rattle.covered_cli.specs.Contradiction.{contradiction_line}
-use Rattle.covered_cli.specs.Databases.{database_line, database_status}
-use Rattle.covered_cli.specs.PointsMessage.{machine_line, points_line, points_status}
+use Rattle.covered_cli.specs.FaultStatus.{database_status, points_status, source_status}
+use Rattle.covered_cli.specs.PointsMessage.{machine_line, points_line}
 use Rattle.covered_cli.specs.ScoreMachines.{habit_in}
 use Rattle.covered_cli.specs.ScoreSources.{sources_in}
 use Rattle.covered_cli.specs.Scoring.{HasNoMachine, HasPointsFault, HasSomeDesign, HasSomeScore, IsContradictedDump, IsContradictedText, IsDumpRefusal, IsRefusedDump}
 use Rattle.covered_cli.specs.Selfrun.{AreSteps, IsSelfrunFault}
-use Rattle.covered_cli.specs.SourceMessage.{source_line, source_status}
 use Rattle.covered_cli.specs.DumpRefusal.{refusal_line}
 use Rattle.source_design.specs.Reading.{IsSourceFault}
 use Rattle.covered_cli.specs.declared.fault.Fault.{Fault}
@@ -65,6 +66,11 @@ status_of (fault.Databases f) = database_status f
 status_of (fault.Selfrun selfrun_fault.Print) = status.Files
 status_of (fault.Selfrun selfrun_fault.NoMemory) = status.Memory
 
+-- the line that is warned where the counts of a selfrun were not printed
+abbrev pub selfrun_line : SelfrunFault → List ℕ
+selfrun_line selfrun_fault.Print = file_line (codes "print") (codes "-")
+selfrun_line selfrun_fault.NoMemory = codes "covered: memory\n"
+
 -- the line that is warned
 abbrev pub line_of : Fault → List ℕ
 line_of (fault.Usage usage) = codes "covered: usage: " ++ usage_text usage ++ codes "\n"
@@ -73,11 +79,10 @@ line_of (fault.NoMachine name) = machine_line name.now
 line_of (fault.Points f) = points_line f
 line_of (fault.Dump refusal) = refusal_line refusal
 line_of (fault.Contradiction x) = contradiction_line x
-line_of (fault.Files call file) = codes "covered: files: " ++ call_name call ++ codes " " ++ file.now ++ codes "\n"
+line_of (fault.Files call file) = file_line (call_name call) file.now
 line_of fault.Memory = codes "covered: memory\n"
 line_of (fault.Databases f) = database_line f
-line_of (fault.Selfrun selfrun_fault.Print) = codes "covered: files: print -\n"
-line_of (fault.Selfrun selfrun_fault.NoMemory) = codes "covered: memory\n"
+line_of (fault.Selfrun f) = selfrun_line f
 
 -- the command names the file for this call: the dump for reading, and the output for writing
 abbrev pub NamesFile : ScoreValues → Call → List ℕ → Type 0
@@ -224,7 +229,7 @@ IsScoringFault score design before after (fault.Dump refusal) = (text : List ℕ
 IsScoringFault score design before after (fault.Contradiction x) = (text : List ℕ) × IsFile before score.dump text × IsContradictedText (habit_in score) design score.instance text x
 IsScoringFault score design before after other = IsReadingFault score.dump before after other
 
--- the fault is none of sources or points, none of a dump or its contradiction, none of a file, and none of a command over databases
+-- the fault is none of sources or points, none of a dump or its contradiction, none of a file, none of a command over databases, and none of a selfrun
 abbrev pub IsPlain : Fault → Type 0
 IsPlain (fault.Source f) = ⊥
 IsPlain (fault.Points f) = ⊥
@@ -232,4 +237,5 @@ IsPlain (fault.Dump refusal) = ⊥
 IsPlain (fault.Contradiction x) = ⊥
 IsPlain (fault.Files call file) = ⊥
 IsPlain (fault.Databases f) = ⊥
+IsPlain (fault.Selfrun f) = ⊥
 IsPlain other = Unit {0}

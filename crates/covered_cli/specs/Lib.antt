@@ -2,8 +2,6 @@ pub mod DumpRefusal
 pub mod Contradiction
 pub mod Complete
 pub mod Covered
-pub mod Effects
-pub mod Databases
 pub mod Headline
 pub mod PointCommands
 pub mod Scoring
@@ -11,9 +9,9 @@ pub mod Selfrun
 pub mod SelfrunLaws
 pub mod Refusing
 pub mod Fault
+pub mod FaultStatus
 pub mod Status
 pub mod ScoreSources
 pub mod ScoreMachines
 pub mod Drawing
-pub mod SourceMessage
 pub mod PointsMessage

@@ -15,9 +15,8 @@ IsBindRefusal instance bind_fault.NoInstance (fault.Dump (refusal.NoInstance pat
 IsBindRefusal instance f fault.Memory = Unit {0}
 IsBindRefusal instance f other = ⊥
 
--- the fault is that of the replay, with the path of its signal, if it is not want of memory
+-- the fault is that of the replay, with the path of its signal
 abbrev pub IsReplayRefusal : Design → ReplayFault → Fault → Type 0
 IsReplayRefusal d (replay_fault.NoBaseline s) (fault.Dump (refusal.NoBaseline path)) = path ≡ path_of d s
 IsReplayRefusal d (replay_fault.Contradiction s time dumped computed) (fault.Contradiction x) = x ≡ record { path = path_of d s; time = time; dumped = dumped; computed = computed }
-IsReplayRefusal d f fault.Memory = Unit {0}
 IsReplayRefusal d f other = ⊥

@@ -1,13 +1,14 @@
 ghost use Rattle.std.specs.Prelude.{◌≡◌, ◌++◌, codes, decimal};
 ghost use Rattle.cov_host.specs.Outside.{KeepsFiles, KeepsInput, KeepsOutput};
-ghost use Rattle.whole_files.specs.Effects.{CountsUp};
-ghost use Rattle.covered_cli.specs.DumpRefusal.{kind_text, refusal_line};
-ghost use Rattle.covered_cli.specs.Effects.{WarnsLine};
+ghost use Rattle.vcd_reader.specs.Kinds.{kind_text};
+ghost use Rattle.whole_files.specs.Effects.{CountsUp, WarnsLine};
+ghost use Rattle.covered_cli.specs.DumpRefusal.{refusal_line};
 
-use crate::pieces::warn_pieces;
-use cov_host::{Host, Name};
+use crate::signal_path::SignalPath;
+use cov_host::Host;
 use itoa::Buffer;
 use vcd_reader::DumpKind;
+use whole_files::warn_pieces;
 
 /// Why a dump is refused.
 #[derive(Drop)]
@@ -17,22 +18,24 @@ pub(crate) enum DumpRefusal<'a> {
     /// No variable is in the scope of the path or below it.
     NoInstance { path: &'a str },
     /// A stretch has a second time, and the signal of this path, which is bound, has no value in the stretch before it.
-    NoBaseline { path: Name },
+    NoBaseline { path: SignalPath },
 }
 
-/// Warns of a refused dump by its line.
-pub(crate) fn warn_refusal<H: Host>(host: &mut H, refusal: &DumpRefusal<'_>)
-    ensures line { WarnsLine (refusal_line refusal.now) (H.outside host.old) (H.outside host.new) }
-    ensures printed { (H.outside host.new).printed ≡ (H.outside host.old).printed }
-    ensures files { KeepsFiles (H.outside host.old) (H.outside host.new) }
-    ensures input { KeepsInput (H.outside host.old) (H.outside host.new) }
-    ensures output { KeepsOutput (H.outside host.old) (H.outside host.new) }
-    ensures counts { CountsUp (H.outside host.old) (H.outside host.new) }
-{
-    match refusal {
-        DumpRefusal::At { kind, byte } => warn_fault(host, *kind, *byte),
-        DumpRefusal::NoInstance { path } => warn_instance(host, path),
-        DumpRefusal::NoBaseline { path } => warn_signal(host, "3 NoBaseline ", path.as_slice()),
+impl DumpRefusal<'_> {
+    /// Warns of the refused dump by its line.
+    pub(crate) fn warn<H: Host>(&self, host: &mut H)
+        ensures line { WarnsLine (refusal_line self.now) (H.outside host.old) (H.outside host.new) }
+        ensures printed { (H.outside host.new).printed ≡ (H.outside host.old).printed }
+        ensures files { KeepsFiles (H.outside host.old) (H.outside host.new) }
+        ensures input { KeepsInput (H.outside host.old) (H.outside host.new) }
+        ensures output { KeepsOutput (H.outside host.old) (H.outside host.new) }
+        ensures counts { CountsUp (H.outside host.old) (H.outside host.new) }
+    {
+        match self {
+            DumpRefusal::At { kind, byte } => warn_fault(host, *kind, *byte),
+            DumpRefusal::NoInstance { path } => warn_instance(host, path),
+            DumpRefusal::NoBaseline { path } => warn_signal(host, "3 NoBaseline ", path),
+        }
     }
 }
 
@@ -56,7 +59,7 @@ fn warn_instance<H: Host>(host: &mut H, path: &str)
 }
 
 /// Warns of a fault of a signal.
-fn warn_signal<'a, H: Host>(host: &mut H, fault: &'a str, path: &'a [u8])
+fn warn_signal<'a, H: Host>(host: &mut H, fault: &'a str, path: &'a SignalPath)
     ensures line { WarnsLine (codes "covered: dump: bind " ++ fault.now ++ path.now ++ codes "\n") (H.outside host.old) (H.outside host.new) }
     ensures printed { (H.outside host.new).printed ≡ (H.outside host.old).printed }
     ensures files { KeepsFiles (H.outside host.old) (H.outside host.new) }
@@ -69,7 +72,9 @@ fn warn_signal<'a, H: Host>(host: &mut H, fault: &'a str, path: &'a [u8])
         &[
             "covered: dump: bind ".as_bytes(),
             fault.as_bytes(),
-            path,
+            path.instance.as_slice(),
+            ".".as_bytes(),
+            path.name.as_slice(),
             "\n".as_bytes(),
         ],
     );
@@ -89,30 +94,10 @@ fn warn_fault<H: Host>(host: &mut H, kind: DumpKind, byte: u64)
         host,
         &[
             "covered: dump: ".as_bytes(),
-            text_of(kind).as_bytes(),
+            kind.text().as_bytes(),
             " at byte ".as_bytes(),
             digits.format(byte).as_bytes(),
             "\n".as_bytes(),
         ],
     );
-}
-
-/// The number and the name of a fault of a dump.
-fn text_of(kind: DumpKind) -> &'static str
-    ensures { result.now ≡ kind_text kind }
-{
-    match kind {
-        DumpKind::BadHeader => "1 BadHeader",
-        DumpKind::BadChange => "2 BadChange",
-        DumpKind::UnknownCode => "3 UnknownCode",
-        DumpKind::VectorTooLong => "4 VectorTooLong",
-        DumpKind::TimeBack => "5 TimeBack",
-        DumpKind::Truncated => "6 Truncated",
-        DumpKind::LongCode => "7 LongCode",
-        DumpKind::Gap => "8 Gap",
-        DumpKind::DeepScope => "9 DeepScope",
-        DumpKind::DumpTooLong => "10 DumpTooLong",
-        DumpKind::TimeTooLarge => "11 TimeTooLarge",
-        DumpKind::HeaderTooLong => "12 HeaderTooLong",
-    }
 }

@@ -4,11 +4,9 @@ ghost use Rattle.covered_cli.specs.declared.fault.Fault.TheVariants.{Memory as m
 
 use crate::Status;
 use crate::contradiction::Contradiction;
-use crate::database_message::database_status;
 use crate::dump_refusal::DumpRefusal;
-use crate::points_message::points_status;
+use crate::fault_status::{database_status, points_status, source_status};
 use crate::selfrun_fault::SelfrunFault;
-use crate::source_message::source_status;
 use command_line::UsageFault;
 use cov_host::NoMemory;
 use database_commands::CommandFault;

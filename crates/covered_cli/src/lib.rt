@@ -15,20 +15,18 @@
 #![tactic(auto)]
 
 mod contradiction;
-mod database_message;
 mod drawings;
 mod dump_refusal;
 mod fault;
-mod files_message;
+mod fault_status;
 mod message;
-mod pieces;
 mod points_message;
 mod score;
 mod score_words;
 mod selfrun;
 mod selfrun_fault;
 mod selfrun_laws;
-mod source_message;
+mod signal_path;
 mod status;
 mod top_call;
 

@@ -2,22 +2,15 @@ ghost use Rattle.std.specs.Prelude.{◌≡◌, ◌++◌, codes};
 ghost use Rattle.std.specs.List.{flat_map};
 ghost use Rattle.command_line.specs.UsageFault.{usage_text};
 ghost use Rattle.cov_host.specs.Outside.{KeepsFiles, KeepsInput, KeepsOutput};
-ghost use Rattle.whole_files.specs.Effects.{CountsUp};
-ghost use Rattle.covered_cli.specs.Effects.{WarnsLine};
+ghost use Rattle.whole_files.specs.Effects.{CountsUp, WarnsLine};
 ghost use Rattle.covered_cli.specs.Fault.{IsPlain, line_of};
 ghost use Rattle.covered_cli.specs.PointsMessage.{machine_line};
 
-use crate::contradiction::warn_contradiction;
-use crate::database_message::warn_database;
-use crate::dump_refusal::warn_refusal;
 use crate::fault::Fault;
-use crate::files_message::warn_file;
-use crate::pieces::warn_texts;
 use crate::points_message::warn_points;
-use crate::selfrun_fault::SelfrunFault;
-use crate::source_message::warn_source;
 use command_line::UsageFault;
 use cov_host::Host;
+use whole_files::{warn_file, warn_texts};
 
 /// Warns of a fault by its line, piece by piece and without memory. Where the host refuses a piece, the pieces
 /// after it are left out.
@@ -30,19 +23,20 @@ pub(crate) fn warn_of<H: Host>(host: &mut H, fault: &Fault<'_>)
     ensures counts { CountsUp (H.outside host.old) (H.outside host.new) }
 {
     match fault {
-        Fault::Source(fault) => warn_source(host, fault),
-        Fault::Dump(refusal) => warn_refusal(host, refusal),
-        Fault::Contradiction(found) => warn_contradiction(host, found),
-        Fault::Databases(fault) => warn_database(host, fault),
+        Fault::Source(fault) => fault.warn(host),
+        Fault::Dump(refusal) => refusal.warn(host),
+        Fault::Contradiction(found) => found.warn(host),
+        Fault::Databases(fault) => fault.warn(host),
         Fault::Points(fault) => warn_points(host, fault),
+        Fault::Selfrun(fault) => fault.warn(host),
         Fault::Files { call, file } => warn_file(host, call.name(), file.as_bytes()),
-        Fault::Usage(_) | Fault::NoMachine { .. } | Fault::Memory | Fault::Selfrun(_) => {
+        Fault::Usage(_) | Fault::NoMachine { .. } | Fault::Memory => {
             warn_texts(host, &pieces_of(fault))
         }
     }
 }
 
-/// The pieces of a fault's line in order, except one of sources, of points, of a dump or its contradiction, of a file, or of a command over databases.
+/// The pieces of a fault's line in order, except one of sources, of points, of a dump or its contradiction, of a file, of a command over databases, or of a selfrun.
 fn pieces_of<'a>(fault: &Fault<'a>) -> [&'a str; 5]
     ensures { IsPlain fault.now → flat_map (λ piece. piece.now) result ≡ line_of fault.now }
 {
@@ -53,11 +47,10 @@ fn pieces_of<'a>(fault: &Fault<'a>) -> [&'a str; 5]
         | Fault::Dump(_)
         | Fault::Contradiction(_)
         | Fault::Files { .. }
-        | Fault::Databases(_) => ["", "", "", "", ""],
+        | Fault::Databases(_)
+        | Fault::Selfrun(_) => ["", "", "", "", ""],
         Fault::NoMachine { name } => machine_pieces(name),
         Fault::Memory => ["covered: memory\n", "", "", "", ""],
-        Fault::Selfrun(SelfrunFault::Print) => ["covered: files: print -\n", "", "", "", ""],
-        Fault::Selfrun(SelfrunFault::NoMemory) => ["covered: memory\n", "", "", "", ""],
     }
 }
 

@@ -3,7 +3,6 @@ ghost use Rattle.command_line.specs.CommandWords.{HaveForms, score_values};
 ghost use Rattle.cov_host.specs.Outside.{HasFile, KeepsFiles, KeepsStreams, Outside, Told};
 ghost use Rattle.coverage_db.specs.Table.{IsTable};
 ghost use Rattle.coverage_db.specs.Text.{text_of};
-ghost use Rattle.design_model.specs.Design.{path_of};
 ghost use Rattle.design_model.specs.Lawful.{IsLawfulDesign};
 ghost use Rattle.design_model.specs.View.{design_view};
 ghost use Rattle.design_points.specs.Counted.{AreAllPoints};
@@ -30,6 +29,7 @@ use crate::drawings::draw_machines;
 use crate::dump_refusal::DumpRefusal;
 use crate::fault::Fault;
 use crate::score_words::{defines_of, files_of, habit_when, states_of};
+use crate::signal_path::SignalPath;
 use command_line::ScoreWords;
 use cov_host::{Host, Name, NoMemory, Sequence, Text};
 use cover_points::Points;
@@ -74,11 +74,14 @@ pub(crate) fn table_of<'a, H: Host>(
     ensures fault { IfErr result (StandsIn (score_values words.now) (H.outside host.old) (H.outside host.new)) }
     ensures effects { OnlyReads (H.outside host.old) (H.outside host.new) }
 {
-    let ReadDesign { design, sources } = design_of(alloc, host, words)?;
+    let ReadDesign {
+        mut design,
+        sources,
+    } = design_of(alloc, host, words)?;
     let mut states = states_of(alloc, words.machines)?;
     draw_machines(alloc, &design, words.drawings, &mut states)?;
     let points = points_of(alloc, &design, &states)?;
-    db_of(alloc, host, &design, &points, sources, words)
+    db_of(alloc, host, &mut design, &points, sources, words)
 }
 
 /// The design of the command's sources, and the names of the sources.
@@ -134,23 +137,23 @@ fn write<'a, H: Host>(host: &mut H, name: &'a str, text: &Text) -> Result<(), Fa
     }
 }
 
-/// The database of a design with these points under the command's dump.
+/// The database of a design with these points under the command's dump. After a refusal the design is of no use.
 fn db_of<'a, H: Host>(
     alloc: Global,
     host: &mut H,
-    design: &Design,
+    design: &mut Design,
     points: &Points,
     sources: Sequence<Name>,
     words: &ScoreWords<'a>,
 ) -> Result<Db, Fault<'a>>
-    requires replayable { IsReplayable (design_view design.now) points.now }
-    requires points { (machines : StateMachines) × AreAllPoints (design_view design.now) machines points.now }
+    requires replayable { IsReplayable (design_view design.old) points.now }
+    requires points { (machines : StateMachines) × AreAllPoints (design_view design.old) machines points.now }
     requires named { All IsWrittenMachine points.now.machines.items }
-    requires written { IsWritten sources (design_view design.now) }
-    requires rooted { IsRooted (design_view design.now) }
-    ensures scored { (machines : StateMachines) → AreAllPoints (design_view design.now) machines points.now
-        → IfOk result (IsScoreOfFile words.now.dump.now (H.outside host.old) (habit_when words.now.late) design.now machines sources words.now.instance.now) }
-    ensures fault { IfErr result (IsScoringFault (score_values words.now) design.now (H.outside host.old) (H.outside host.new)) }
+    requires written { IsWritten sources (design_view design.old) }
+    requires rooted { IsRooted (design_view design.old) }
+    ensures scored { (machines : StateMachines) → AreAllPoints (design_view design.old) machines points.now
+        → IfOk result (IsScoreOfFile words.now.dump.now (H.outside host.old) (habit_when words.now.late) design.old machines sources words.now.instance.now) }
+    ensures fault { IfErr result (IsScoringFault (score_values words.now) design.old (H.outside host.old) (H.outside host.new)) }
     ensures effects { OnlyReads (H.outside host.old) (H.outside host.new) }
 {
     match score_dump(
@@ -171,13 +174,13 @@ fn db_of<'a, H: Host>(
 /// The fault of the program that a fault of the scoring is.
 fn fault_of<'a>(
     alloc: Global,
-    design: &Design,
+    design: &mut Design,
     words: &ScoreWords<'a>,
     fault: ScoreFault,
 ) -> Fault<'a>
-    requires lawful { IsLawfulDesign (design_view design.now) }
-    requires fault { (before : Outside) × (after : Outside) × IsScoreFault words.now.dump.now before after (habit_when words.now.late) design.now words.now.instance.now fault }
-    ensures { (before after : Outside) → IsScoreFault words.now.dump.now before after (habit_when words.now.late) design.now words.now.instance.now fault → IsScoringFault (score_values words.now) design.now before after result }
+    requires lawful { IsLawfulDesign (design_view design.old) }
+    requires fault { (before : Outside) × (after : Outside) × IsScoreFault words.now.dump.now before after (habit_when words.now.late) design.old words.now.instance.now fault }
+    ensures { (before after : Outside) → IsScoreFault words.now.dump.now before after (habit_when words.now.late) design.old words.now.instance.now fault → IsScoringFault (score_values words.now) design.old before after result }
 {
     match fault {
         ScoreFault::NoMemory => Fault::Memory,
@@ -204,42 +207,32 @@ fn bind_refusal<'a>(instance: &'a str, fault: BindFault) -> Fault<'a>
     }
 }
 
-/// The fault of the program that a fault of the replay is.
-fn replay_refusal<'a>(alloc: Global, design: &Design, fault: ReplayFault) -> Fault<'a>
-    requires lawful { IsLawfulDesign (design_view design.now) }
-    requires signal { signal_of fault < length design.now.signals }
-    ensures { IsReplayRefusal (design_view design.now) fault result }
+/// The fault of the program that a fault of the replay is. It takes no memory.
+fn replay_refusal<'a>(alloc: Global, design: &mut Design, fault: ReplayFault) -> Fault<'a>
+    requires lawful { IsLawfulDesign (design_view design.old) }
+    requires signal { signal_of fault < length design.old.signals }
+    ensures { IsReplayRefusal (design_view design.old) fault result }
 {
     match fault {
-        ReplayFault::NoBaseline { signal } => match path_of(alloc, design, signal as usize) {
-            Ok(path) => Fault::Dump(DumpRefusal::NoBaseline { path }),
-            Err(NoMemory) => Fault::Memory,
-        },
+        ReplayFault::NoBaseline { signal } => {
+            let path = SignalPath::of(alloc, design, signal as usize);
+            Fault::Dump(DumpRefusal::NoBaseline { path })
+        }
         ReplayFault::Contradiction {
             signal,
             time,
             dumped,
             computed,
-        } => match path_of(alloc, design, signal as usize) {
-            Ok(path) => Fault::Contradiction(Contradiction {
+        } => {
+            let path = SignalPath::of(alloc, design, signal as usize);
+            Fault::Contradiction(Contradiction {
                 path,
                 time,
                 dumped,
                 computed,
-            }),
-            Err(NoMemory) => Fault::Memory,
-        },
+            })
+        }
     }
-}
-
-/// The path of the signal with this number.
-fn path_of(alloc: Global, design: &Design, signal: usize) -> Result<Name, NoMemory>
-    requires lawful { IsLawfulDesign (design_view design.now) }
-    requires signal { signal < length design.now.signals }
-    ensures { IfOk result (λ path. path ≡ path_of (design_view design.now) signal) }
-{
-    // a lawful design has at most 65,536 signals
-    design.path(alloc, signal as u32)
 }
 
 /// The text of a database.

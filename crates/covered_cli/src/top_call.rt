@@ -2,10 +2,9 @@ ghost use Rattle.std.specs.Prelude.{◌≡◌, ◌≢◌, ◌↔◌, IfErr, OnEr
 ghost use Rattle.command_line.specs.Command.{command_values};
 ghost use Rattle.cov_host.specs.Outside.{KeepsFiles, KeepsInput, KeepsOutput, Told};
 ghost use Rattle.database_commands.specs.Reporting.{KeepsUnlessNamed, LeavesFront, PrintsIfUnnamed};
-ghost use Rattle.whole_files.specs.Effects.{CountsUp};
+ghost use Rattle.whole_files.specs.Effects.{CountsUp, WarnsLine};
 ghost use Rattle.covered_cli.specs.Complete.{EndsWith, HasBadDump, HasBadSource, HasUnboundDump, IsCommandWith, IsGoodScore, LacksPoints, NoFaults, RefusesBinding, RefusesDump, RefusesPoints};
 ghost use Rattle.covered_cli.specs.Covered.{HasContradiction, HasDatabaseCause, HasEarlyStatus, HasFilesCause, HasGoodDatabases, IsNoCommand, IsSomeCommand, IsSomeSelfrun, KeepsUnnamed, Leaves, PrintsCounts, PrintsText, WarnsFault};
-ghost use Rattle.covered_cli.specs.Effects.{WarnsLine};
 ghost use Rattle.covered_cli.specs.Fault.{HasForms, IsEarly, Stands, StandsInWork, line_of, output_of, status_of};
 ghost use Rattle.covered_cli.specs.Headline.{IsAccepted, IsListed, IsReasonedScore, IsSoundScore};
 ghost use Rattle.covered_cli.specs.Scoring.{IsDone, IsDoneWork, IsTextOf, LeavesElse, OfScore};

@@ -6,3 +6,4 @@ pub mod Complete
 pub mod Reporting
 pub mod Tracing
 pub mod Ranking
+pub mod FaultLine

@@ -5,7 +5,7 @@
 //! With `Ok` exactly the text of the definition was written to the output or printed. Each fault has its cause, and
 //! one that comes before the output is opened leaves every file as it was. Good files without a failed call give `Ok`
 //! or want of memory. No file except the output changes. [`any_order`] states that the tables of one design have one
-//! merge, in whatever order.
+//! merge, in whatever order. [`CommandFault::warn`] warns of a fault by its line.
 #![tactic(auto)]
 
 mod change;

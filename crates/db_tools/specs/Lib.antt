@@ -4,3 +4,4 @@ pub mod Views
 pub mod Faults
 pub mod Reading
 pub mod Greedy
+pub mod FaultText

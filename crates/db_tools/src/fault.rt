@@ -1,3 +1,6 @@
+ghost use Rattle.std.specs.Prelude.{◌≡◌};
+ghost use Rattle.db_tools.specs.FaultText.{refusal_text};
+
 use thiserror::Error;
 
 /// Why a point was not excluded, or was not restored.
@@ -12,4 +15,17 @@ pub enum ToolFault {
     /// The point is not excluded.
     #[error("the point is not excluded")]
     NotOut,
+}
+
+impl ToolFault {
+    /// The number and the name, as messages have them.
+    pub fn text(self) -> &'static str
+        ensures { result.now ≡ refusal_text self }
+    {
+        match self {
+            ToolFault::NoPoint => "6 NoPoint",
+            ToolFault::AlreadyOut => "7 AlreadyOut",
+            ToolFault::NotOut => "8 NotOut",
+        }
+    }
 }

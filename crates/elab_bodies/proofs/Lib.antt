@@ -6,3 +6,4 @@ pub mod SoundCases
 pub mod SoundOfMet
 pub mod SoundNets
 pub mod ReadLists
+pub mod FewerNodes

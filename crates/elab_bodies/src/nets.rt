@@ -1,6 +1,6 @@
 //! The processes of nets that are declared with a value (IEEE 1364-2001 clause 6.1.1).
 
-ghost use Rattle.std.specs.Prelude.{◌≡◌, ◌≤◌, ◌+◌, ℕ, true, Some, IfOk, OnOk};
+ghost use Rattle.std.specs.Prelude.{◌≡◌, ◌≤◌, ◌+◌, ◌<◌, ◌^◌, ℕ, true, Some, IfOk, OnOk};
 ghost use Rattle.cov_host.specs.declared.place.Place.{Place};
 ghost use Rattle.design_model.specs.View.{process_view};
 ghost use Rattle.elab_build.specs.Sound.{IsClear, IsSound, IsSoundTarget};
@@ -36,6 +36,7 @@ pub fn net_process(
     requires clear { IsClear (binding_of scope.now) }
     requires to { IsSoundTarget (binding_of scope.now) (identifier name.now.place name.now.name) }
     requires value { IsSound (binding_of scope.now) (expr_view value.now) }
+    requires few { nodes.old + count.nodes (binding_of scope.now) (identifier name.now.place name.now.name) + count.nodes (binding_of scope.now) (expr_view value.now) < 2 ^ 32 }
     ensures built { IfOk result (λ x. (k : ℕ) (p : Place) → process_view x ≡ (spec.continuous base (binding_of scope.now) instance k p (identifier name.now.place name.now.name) (expr_view value.now) nodes.old).process) }
     ensures counted { OnOk result (nodes.new ≡ nodes.old + count.nodes (binding_of scope.now) (identifier name.now.place name.now.name) + count.nodes (binding_of scope.now) (expr_view value.now)) }
 {

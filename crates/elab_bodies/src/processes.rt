@@ -1,6 +1,6 @@
 //! The processes of items and of joined ports (IEEE 1364-2001 clauses 6.1, 9.7 and 12.3).
 
-ghost use Rattle.std.specs.Prelude.{◌≡◌, ◌≤◌, ◌+◌, ℕ, None, IfOk, OnOk};
+ghost use Rattle.std.specs.Prelude.{◌≡◌, ◌≤◌, ◌+◌, ◌<◌, ◌^◌, ℕ, None, IfOk, OnOk};
 ghost use Rattle.cov_host.specs.declared.place.Place.{Place};
 ghost use Rattle.design_model.specs.Tree as t;
 ghost use Rattle.design_model.specs.View.{process_view, stmt_view, target_view, term_view};
@@ -40,6 +40,7 @@ pub fn continuous_process(
     requires clear { IsClear (binding_of scope.now) }
     requires to { IsSoundTarget (binding_of scope.now) (expr_view to.now) }
     requires value { IsSound (binding_of scope.now) (expr_view value.now) }
+    requires few { nodes.old + count.nodes (binding_of scope.now) (expr_view to.now) + count.nodes (binding_of scope.now) (expr_view value.now) < 2 ^ 32 }
     ensures built { IfOk result (λ x. (k : ℕ) (p : Place) → process_view x ≡ (spec.continuous base (binding_of scope.now) instance k p (expr_view to.now) (expr_view value.now) nodes.old).process) }
     ensures counted { OnOk result (nodes.new ≡ nodes.old + count.nodes (binding_of scope.now) (expr_view to.now) + count.nodes (binding_of scope.now) (expr_view value.now)) }
 {
@@ -69,6 +70,8 @@ pub fn always_process(
     requires base { base ≤ 65536 }
     requires clear { IsClear (binding_of scope.old) }
     requires sound { IsSoundStatement (binding_of scope.old) (statement_view body.now) }
+    requires few_lines { line.old + count.lines (statement_view body.now) < 2 ^ 32 }
+    requires few_nodes { nodes.old + count.statement_nodes (binding_of scope.old) (statement_view body.now) < 2 ^ 32 }
     ensures built { IfOk result (λ x. (k : ℕ) (p : Place) → process_view x ≡ (spec.always base (binding_of scope.old) instance k p when.now (statement_view body.now) line.old nodes.old).process) }
     ensures lines { OnOk result (line.new ≡ line.old + count.lines (statement_view body.now)) }
     ensures counted { OnOk result (nodes.new ≡ nodes.old + count.statement_nodes (binding_of scope.old) (statement_view body.now)) }
@@ -121,6 +124,7 @@ pub fn joined_input_process(
     requires base { base ≤ 65536 }
     requires port { IsVectorRange port.range }
     requires sound { IsSound (binding_of scope.now) (expr_view value.now) }
+    requires few { count.nodes (binding_of scope.now) (expr_view value.now) < 2 ^ 32 }
     ensures { IfOk result (λ x. (k : ℕ) (p : Place) (label : Named) → process_view x ≡ (spec.joined_input base (binding_of scope.now) instance k p label port (expr_view value.now)).process) }
 {
     let mut nodes = 0;
@@ -149,6 +153,7 @@ pub fn joined_output_process(
     requires clear { IsClear (binding_of scope.now) }
     requires port { IsVectorRange port.range }
     requires sound { IsSoundTarget (binding_of scope.now) (expr_view to.now) }
+    requires few { count.nodes (binding_of scope.now) (expr_view to.now) < 2 ^ 32 }
     ensures { IfOk result (λ x. (k : ℕ) (p : Place) → process_view x ≡ (spec.joined_output base (binding_of scope.now) instance k p port (expr_view to.now)).process) }
 {
     let mut nodes = 0;

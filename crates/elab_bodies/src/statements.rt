@@ -1,6 +1,6 @@
 //! The flat statements that statements become (IEEE 1364-2001 clause 9).
 
-ghost use Rattle.std.specs.Prelude.{◌≡◌, ◌≤◌, ◌+◌, ℕ, List, IfOk, OnOk, bytes_eq, false, map, true};
+ghost use Rattle.std.specs.Prelude.{◌≡◌, ◌≤◌, ◌+◌, ◌<◌, ◌^◌, ℕ, List, IfOk, OnOk, bytes_eq, false, map, true};
 ghost use Rattle.design_model.specs.View.{arms_of as flat_arms_of, stmt_view, stmts_of, term_view, terms_of};
 ghost use Rattle.elab_bodies.specs.Sound.{IsSoundStatement, AreSoundStatements, AreSoundItems, InTurns};
 ghost use Rattle.elab_bodies.specs.View.{arm_view, else_view, other_view};
@@ -42,6 +42,8 @@ pub fn statement(
     requires base { base ≤ 65536 }
     requires clear { IsClear (binding_of scope.old) }
     requires sound { IsSoundStatement (binding_of scope.old) (statement_view statement.now) }
+    requires few_lines { line.old + count.lines (statement_view statement.now) < 2 ^ 32 }
+    requires few_nodes { nodes.old + count.statement_nodes (binding_of scope.old) (statement_view statement.now) < 2 ^ 32 }
     ensures built { IfOk result (λ x. stmt_view x ≡ spec.statement base (binding_of scope.old) (statement_view statement.now) line.old nodes.old) }
     ensures lines { OnOk result (line.new ≡ line.old + count.lines (statement_view statement.now)) }
     ensures counted { OnOk result (nodes.new ≡ nodes.old + count.statement_nodes (binding_of scope.old) (statement_view statement.now)) }
@@ -84,6 +86,8 @@ fn statements(
     requires base { base ≤ 65536 }
     requires clear { IsClear (binding_of scope.old) }
     requires sound { AreSoundStatements (binding_of scope.old) (statements_of (statements_view parts.now)) }
+    requires few_lines { line.old + count.all_lines (statements_of (statements_view parts.now)) < 2 ^ 32 }
+    requires few_nodes { nodes.old + count.all_statement_nodes (binding_of scope.old) (statements_of (statements_view parts.now)) < 2 ^ 32 }
     ensures built { IfOk result (λ xs. stmts_of (map stmt_view xs.items) ≡ spec.statements base (binding_of scope.old) (statements_of (statements_view parts.now)) line.old nodes.old) }
     ensures lines { OnOk result (line.new ≡ line.old + count.all_lines (statements_of (statements_view parts.now))) }
     ensures counted { OnOk result (nodes.new ≡ nodes.old + count.all_statement_nodes (binding_of scope.old) (statements_of (statements_view parts.now))) }
@@ -112,12 +116,14 @@ fn branch(
     requires base { base ≤ 65536 }
     requires clear { IsClear (binding_of scope.old) }
     requires sound { IsSoundStatement (binding_of scope.old) (t.if_statement place (expr_view test.now) (statement_view yes.now) (else_view no.now)) }
+    requires few_lines { line.old + count.lines (t.if_statement place (expr_view test.now) (statement_view yes.now) (else_view no.now)) < 2 ^ 32 }
+    requires few_nodes { nodes.old + count.statement_nodes (binding_of scope.old) (t.if_statement place (expr_view test.now) (statement_view yes.now) (else_view no.now)) < 2 ^ 32 }
     ensures built { IfOk result (λ x. stmt_view x ≡ spec.statement base (binding_of scope.old) (t.if_statement place (expr_view test.now) (statement_view yes.now) (else_view no.now)) line.old nodes.old) }
     ensures lines { OnOk result (line.new ≡ line.old + count.lines (t.if_statement place (expr_view test.now) (statement_view yes.now) (else_view no.now))) }
     ensures counted { OnOk result (nodes.new ≡ nodes.old + count.statement_nodes (binding_of scope.old) (t.if_statement place (expr_view test.now) (statement_view yes.now) (else_view no.now))) }
     ensures kept { OnOk result (binding_of scope.new ≡ binding_of scope.old) }
 {
-    let number = take(line)?;
+    let number = take(line);
     let test = condition_term(alloc, base, scope, test, nodes)?;
     let yes = statement(alloc, base, scope, yes, line, nodes)?;
     let no = otherwise(alloc, base, scope, no, line, nodes)?;
@@ -137,6 +143,8 @@ fn otherwise(
     requires base { base ≤ 65536 }
     requires clear { IsClear (binding_of scope.old) }
     requires sound { AreSoundStatements (binding_of scope.old) (else_view no.now) }
+    requires few_lines { line.old + count.all_lines (else_view no.now) < 2 ^ 32 }
+    requires few_nodes { nodes.old + count.all_statement_nodes (binding_of scope.old) (else_view no.now) < 2 ^ 32 }
     ensures built { IfOk result (λ x. other_view x ≡ spec.statements base (binding_of scope.old) (else_view no.now) line.old nodes.old) }
     ensures lines { OnOk result (line.new ≡ line.old + count.all_lines (else_view no.now)) }
     ensures counted { OnOk result (nodes.new ≡ nodes.old + count.all_statement_nodes (binding_of scope.old) (else_view no.now)) }
@@ -164,13 +172,15 @@ fn select(
     requires base { base ≤ 65536 }
     requires clear { IsClear (binding_of scope.old) }
     requires sound { IsSoundStatement (binding_of scope.old) (t.case_statement place kind (expr_view on.now) (arms_of (arms_view arms.now))) }
+    requires few_lines { line.old + count.lines (t.case_statement place kind (expr_view on.now) (arms_of (arms_view arms.now))) < 2 ^ 32 }
+    requires few_nodes { nodes.old + count.statement_nodes (binding_of scope.old) (t.case_statement place kind (expr_view on.now) (arms_of (arms_view arms.now))) < 2 ^ 32 }
     ensures built { IfOk result (λ x. stmt_view x ≡ spec.statement base (binding_of scope.old) (t.case_statement place kind (expr_view on.now) (arms_of (arms_view arms.now))) line.old nodes.old) }
     ensures lines { OnOk result (line.new ≡ line.old + count.lines (t.case_statement place kind (expr_view on.now) (arms_of (arms_view arms.now)))) }
     ensures counted { OnOk result (nodes.new ≡ nodes.old + count.statement_nodes (binding_of scope.old) (t.case_statement place kind (expr_view on.now) (arms_of (arms_view arms.now)))) }
     ensures kept { OnOk result (binding_of scope.new ≡ binding_of scope.old) }
 {
     let shape = case_shape(scope, on, arms);
-    let number = take(line)?;
+    let number = take(line);
     let on = term(alloc, base, scope, on, nodes, shape)?;
     let arms = case_arms(alloc, base, scope, shape, arms, line, nodes)?;
     forms::select(alloc, place, number, kind, on, arms)
@@ -190,6 +200,8 @@ fn case_arms(
     requires base { base ≤ 65536 }
     requires clear { IsClear (binding_of scope.old) }
     requires sound { AreSoundItems (binding_of scope.old) (arms_of (arms_view arms.now)) }
+    requires few_lines { line.old + count.item_lines (arms_of (arms_view arms.now)) < 2 ^ 32 }
+    requires few_nodes { nodes.old + count.item_nodes (binding_of scope.old) (arms_of (arms_view arms.now)) < 2 ^ 32 }
     ensures built { IfOk result (λ xs. flat_arms_of (map arm_view xs.items) ≡ spec.arms base (binding_of scope.old) shape (arms_of (arms_view arms.now)) line.old nodes.old) }
     ensures lines { OnOk result (line.new ≡ line.old + count.item_lines (arms_of (arms_view arms.now))) }
     ensures counted { OnOk result (nodes.new ≡ nodes.old + count.item_nodes (binding_of scope.old) (arms_of (arms_view arms.now))) }
@@ -218,12 +230,14 @@ fn for_loop(
     requires base { base ≤ 65536 }
     requires clear { IsClear (binding_of scope.old) }
     requires sound { IsSoundStatement (binding_of scope.old) (t.for_loop place (loop_view header.now).0 (loop_view header.now).1) }
+    requires few_lines { line.old + count.lines (t.for_loop place (loop_view header.now).0 (loop_view header.now).1) < 2 ^ 32 }
+    requires few_nodes { nodes.old + count.statement_nodes (binding_of scope.old) (t.for_loop place (loop_view header.now).0 (loop_view header.now).1) < 2 ^ 32 }
     ensures built { IfOk result (λ x. stmt_view x ≡ spec.statement base (binding_of scope.old) (t.for_loop place (loop_view header.now).0 (loop_view header.now).1) line.old nodes.old) }
     ensures lines { OnOk result (line.new ≡ line.old + count.lines (t.for_loop place (loop_view header.now).0 (loop_view header.now).1)) }
     ensures counted { OnOk result (nodes.new ≡ nodes.old + count.statement_nodes (binding_of scope.old) (t.for_loop place (loop_view header.now).0 (loop_view header.now).1)) }
     ensures kept { OnOk result (binding_of scope.new ≡ binding_of scope.old) }
 {
-    let number = take(line)?;
+    let number = take(line);
     let values = turns_of(alloc, scope, header)?;
     let variable = variable_name(alloc, header)?;
     let before = scope.get(variable.as_slice()).copied();
@@ -239,8 +253,8 @@ fn for_loop(
         *nodes,
     )?;
     put_back(scope, &variable, before)?;
-    pass_lines(&header.body, line)?;
-    pass_statement_nodes(scope, &header.body, nodes)?;
+    pass_lines(&header.body, line);
+    pass_statement_nodes(scope, &header.body, nodes);
     Ok(forms::unrolled(alloc, place, number, turns)?)
 }
 
@@ -260,6 +274,8 @@ fn turn_statements(
     requires base { base ≤ 65536 }
     requires clear { IsClear (binding_of scope.old) }
     requires sound { InTurns values.now (λ v. IsSoundStatement (with_turn variable.now v (binding_of scope.old)) (statement_view body.now)) }
+    requires few_lines { line + count.lines (statement_view body.now) < 2 ^ 32 }
+    requires few_nodes { nodes + count.statement_nodes (binding_of scope.old) (statement_view body.now) < 2 ^ 32 }
     ensures built { IfOk result (λ xs. stmts_of (map stmt_view xs.items) ≡ spec.turn_stmts values.now (λ v. spec.statement base (with_turn variable.now v (binding_of scope.old)) (statement_view body.now) line nodes)) }
     ensures kept { OnOk result ((x : List ℕ) → bytes_eq x variable.now ≡ false → binding_of scope.new x ≡ binding_of scope.old x) }
 {
@@ -288,11 +304,13 @@ fn assignment(
     requires base { base ≤ 65536 }
     requires clear { IsClear (binding_of scope.now) }
     requires sound { IsSoundStatement (binding_of scope.now) (t.assignment place (expr_view to.now) blocking (expr_view value.now)) }
+    requires few_lines { line.old + count.lines (t.assignment place (expr_view to.now) blocking (expr_view value.now)) < 2 ^ 32 }
+    requires few_nodes { nodes.old + count.statement_nodes (binding_of scope.now) (t.assignment place (expr_view to.now) blocking (expr_view value.now)) < 2 ^ 32 }
     ensures built { IfOk result (λ x. stmt_view x ≡ spec.statement base (binding_of scope.now) (t.assignment place (expr_view to.now) blocking (expr_view value.now)) line.old nodes.old) }
     ensures lines { OnOk result (line.new ≡ line.old + count.lines (t.assignment place (expr_view to.now) blocking (expr_view value.now))) }
     ensures counted { OnOk result (nodes.new ≡ nodes.old + count.statement_nodes (binding_of scope.now) (t.assignment place (expr_view to.now) blocking (expr_view value.now))) }
 {
-    let number = take(line)?;
+    let number = take(line);
     let width = target_width(scope, to);
     let to = target(alloc, base, scope, to, nodes)?;
     let value = right_side(alloc, base, scope, width, value, nodes)?;
@@ -319,6 +337,7 @@ fn label_terms(
 ) -> Result<Vec<Term>, NoMemory>
     requires base { base ≤ 65536 }
     requires sound { AreSound (binding_of scope.now) (exprs_of (exprs_view labels.now)) }
+    requires few { nodes.old + count.all_nodes (binding_of scope.now) (exprs_of (exprs_view labels.now)) < 2 ^ 32 }
     ensures built { IfOk result (λ xs. terms_of (map term_view xs.items) ≡ spec.label_terms base (binding_of scope.now) shape (exprs_of (exprs_view labels.now)) nodes.old) }
     ensures counted { OnOk result (nodes.new ≡ nodes.old + count.all_nodes (binding_of scope.now) (exprs_of (exprs_view labels.now))) }
 {

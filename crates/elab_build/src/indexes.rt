@@ -56,6 +56,7 @@ fn behind_zero(
 ) -> Result<Term, NoMemory>
     requires base { base ≤ 65536 }
     requires sound { IsSound (binding_of scope.now) (expr_view expr.now) }
+    requires few { nodes.old + count.nodes (binding_of scope.now) (expr_view expr.now) < 2 ^ 32 }
     ensures built { IfOk result (λ x. term_view x ≡ spec.behind_zero base (binding_of scope.now) (expr_view expr.now) nodes.old) }
     ensures counted { OnOk result (nodes.new ≡ nodes.old + count.nodes (binding_of scope.now) (expr_view expr.now)) }
 {
@@ -87,6 +88,7 @@ fn with_sign_bit(
 ) -> Result<Term, NoMemory>
     requires base { base ≤ 65536 }
     requires sound { IsSound (binding_of scope.now) (expr_view expr.now) }
+    requires few { nodes.old + count.nodes (binding_of scope.now) (expr_view expr.now) < 2 ^ 32 }
     ensures built { IfOk result (λ x. term_view x ≡ spec.with_sign_bit base (binding_of scope.now) (expr_view expr.now) nodes.old) }
     ensures counted { OnOk result (nodes.new ≡ nodes.old + count.nodes (binding_of scope.now) (expr_view expr.now)) }
 {
@@ -111,6 +113,7 @@ pub(crate) fn signed_term(
 ) -> Result<Term, NoMemory>
     requires base { base ≤ 65536 }
     requires sound { IsSound (binding_of scope.now) (expr_view expr.now) }
+    requires few { nodes.old + count.nodes (binding_of scope.now) (expr_view expr.now) < 2 ^ 32 }
     ensures built { IfOk result (λ x. term_view x ≡ spec.signed_term base (binding_of scope.now) width (expr_view expr.now) nodes.old) }
     ensures counted { OnOk result (nodes.new ≡ nodes.old + count.nodes (binding_of scope.now) (expr_view expr.now)) }
 {
@@ -149,6 +152,7 @@ fn moved_term(
     requires base { base ≤ 65536 }
     requires sound { IsSound (binding_of scope.now) (expr_view expr.now) }
     requires by { by < 128 }
+    requires few { nodes.old + count.nodes (binding_of scope.now) (expr_view expr.now) < 2 ^ 32 }
     ensures built { IfOk result (λ x. term_view x ≡ spec.moved_term base (binding_of scope.now) up by (expr_view expr.now) nodes.old) }
     ensures counted { OnOk result (nodes.new ≡ nodes.old + count.nodes (binding_of scope.now) (expr_view expr.now)) }
 {
@@ -177,6 +181,7 @@ fn highest_bit(
 ) -> Result<Term, NoMemory>
     requires base { base ≤ 65536 }
     requires sound { IsSound (binding_of scope.now) (expr_view expr.now) }
+    requires few { nodes.old + count.nodes (binding_of scope.now) (expr_view expr.now) < 2 ^ 32 }
     ensures built { IfOk result (λ x. term_view x ≡ spec.highest_bit base (binding_of scope.now) (expr_view expr.now) nodes.old) }
     ensures counted { OnOk result (nodes.new ≡ nodes.old + count.nodes (binding_of scope.now) (expr_view expr.now)) }
 {
@@ -208,6 +213,7 @@ fn guarded_term(
     requires base { base ≤ 65536 }
     requires sound { IsSound (binding_of scope.now) (expr_view expr.now) }
     requires by { by < 128 }
+    requires few { nodes.old + count.nodes (binding_of scope.now) (expr_view expr.now) < 2 ^ 32 }
     ensures built { IfOk result (λ x. term_view x ≡ spec.guarded_term base (binding_of scope.now) (expr_view expr.now) nodes.old (spec.moved_term base (binding_of scope.now) up by (expr_view expr.now) nodes.old)) }
     ensures counted { OnOk result (nodes.new ≡ nodes.old + count.nodes (binding_of scope.now) (expr_view expr.now)) }
 {
@@ -238,6 +244,7 @@ fn moved_index(
     requires base { base ≤ 65536 }
     requires sound { IsSound (binding_of scope.now) (expr_view expr.now) }
     requires by { by < 128 }
+    requires few { nodes.old + count.nodes (binding_of scope.now) (expr_view expr.now) < 2 ^ 32 }
     ensures built { IfOk result (λ x. term_view x ≡ spec.moved_index base (binding_of scope.now) up by (expr_view expr.now) nodes.old) }
     ensures counted { OnOk result (nodes.new ≡ nodes.old + count.nodes (binding_of scope.now) (expr_view expr.now)) }
 {
@@ -263,6 +270,7 @@ pub(crate) fn lowest_index(
     requires base { base ≤ 65536 }
     requires sound { IsSound (binding_of scope.now) (expr_view expr.now) }
     requires width { IsWidth width }
+    requires few { nodes.old + count.nodes (binding_of scope.now) (expr_view expr.now) < 2 ^ 32 }
     ensures built { IfOk result (λ x. term_view x ≡ spec.lowest_index base (binding_of scope.now) range up width (expr_view expr.now) nodes.old) }
     ensures counted { OnOk result (nodes.new ≡ nodes.old + count.nodes (binding_of scope.now) (expr_view expr.now)) }
 {

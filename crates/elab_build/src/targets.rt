@@ -1,6 +1,6 @@
 //! The flat targets of assignments (IEEE 1364-2001, 6.1 and 9.2).
 
-ghost use Rattle.std.specs.Prelude.{◌≡◌, ◌≤◌, ◌+◌, IfOk, OnOk, map, true, false};
+ghost use Rattle.std.specs.Prelude.{◌≡◌, ◌≤◌, ◌+◌, ◌<◌, ◌^◌, IfOk, OnOk, map, true, false};
 ghost use Rattle.design_model.specs.Tree as t;
 ghost use Rattle.design_model.specs.View.{target_view, targets_of, term_view};
 ghost use Rattle.elab_const.specs.Scope.{IsWidth};
@@ -104,6 +104,7 @@ fn slide_target(
     requires base { base ≤ 65536 }
     requires clear { IsClear (binding_of scope.now) }
     requires sound { IsSoundTarget (binding_of scope.now) (indexed_part place (expr_view of.now) (expr_view from.now) (expr_view width.now) up bracket) }
+    requires few { nodes.old + count.nodes (binding_of scope.now) (indexed_part place (expr_view of.now) (expr_view from.now) (expr_view width.now) up bracket) < 2 ^ 32 }
     ensures built { IfOk result (λ x. target_view x ≡ spec.target base (binding_of scope.now) (indexed_part place (expr_view of.now) (expr_view from.now) (expr_view width.now) up bracket) nodes.old) }
     ensures counted { OnOk result (nodes.new ≡ nodes.old + count.nodes (binding_of scope.now) (indexed_part place (expr_view of.now) (expr_view from.now) (expr_view width.now) up bracket)) }
 {
@@ -127,6 +128,7 @@ pub fn target(
     requires base { base ≤ 65536 }
     requires clear { IsClear (binding_of scope.now) }
     requires sound { IsSoundTarget (binding_of scope.now) (expr_view expr.now) }
+    requires few { nodes.old + count.nodes (binding_of scope.now) (expr_view expr.now) < 2 ^ 32 }
     ensures built { IfOk result (λ x. target_view x ≡ spec.target base (binding_of scope.now) (expr_view expr.now) nodes.old) }
     ensures counted { OnOk result (nodes.new ≡ nodes.old + count.nodes (binding_of scope.now) (expr_view expr.now)) }
 {
@@ -157,7 +159,7 @@ pub fn target(
         ),
         ExprForm::Concat(parts) => concat_target(alloc, base, scope, expr.place, parts, nodes),
         _ => {
-            pass_nodes(scope, expr, nodes)?;
+            pass_nodes(scope, expr, nodes);
             Ok(Target::Whole(0))
         }
     }
@@ -176,6 +178,7 @@ fn concat_target(
     requires base { base ≤ 65536 }
     requires clear { IsClear (binding_of scope.now) }
     requires sound { IsSoundTarget (binding_of scope.now) (concatenation place (exprs_of (exprs_view parts.now))) }
+    requires few { nodes.old + count.nodes (binding_of scope.now) (concatenation place (exprs_of (exprs_view parts.now))) < 2 ^ 32 }
     ensures built { IfOk result (λ x. target_view x ≡ spec.target base (binding_of scope.now) (concatenation place (exprs_of (exprs_view parts.now))) nodes.old) }
     ensures counted { OnOk result (nodes.new ≡ nodes.old + count.nodes (binding_of scope.now) (concatenation place (exprs_of (exprs_view parts.now)))) }
 {
@@ -194,6 +197,7 @@ fn targets(
     requires base { base ≤ 65536 }
     requires clear { IsClear (binding_of scope.now) }
     requires sound { EachSoundTarget (binding_of scope.now) (exprs_of (exprs_view parts.now)) }
+    requires few { nodes.old + count.all_nodes (binding_of scope.now) (exprs_of (exprs_view parts.now)) < 2 ^ 32 }
     ensures built { IfOk result (λ xs. targets_of (map target_view xs.items) ≡ spec.targets base (binding_of scope.now) (exprs_of (exprs_view parts.now)) nodes.old) }
     ensures counted { OnOk result (nodes.new ≡ nodes.old + count.all_nodes (binding_of scope.now) (exprs_of (exprs_view parts.now))) }
 {

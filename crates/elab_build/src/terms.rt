@@ -1,7 +1,7 @@
 //! The term that an expression becomes: its form, and the width and sign that each context gives it (IEEE 1364-2001,
 //! 4.4 and 4.5).
 
-ghost use Rattle.std.specs.Prelude.{◌≡◌, ◌≤◌, ◌+◌, IfOk, OnOk, map};
+ghost use Rattle.std.specs.Prelude.{◌≡◌, ◌≤◌, ◌+◌, ◌<◌, ◌^◌, IfOk, OnOk, map};
 ghost use Rattle.design_model.specs.View.{term_view, terms_of};
 ghost use Rattle.elab_build.specs.Sound.{IsSound, AreSound};
 ghost use Rattle.flat_design.specs.Numbering as count;
@@ -35,6 +35,7 @@ pub fn term(
 ) -> Result<Term, NoMemory>
     requires base { base ≤ 65536 }
     requires sound { IsSound (binding_of scope.now) (expr_view expr.now) }
+    requires few { nodes.old + count.nodes (binding_of scope.now) (expr_view expr.now) < 2 ^ 32 }
     ensures built { IfOk result (λ x. term_view x ≡ spec.term base (binding_of scope.now) (expr_view expr.now) nodes.old shape) }
     ensures counted { OnOk result (nodes.new ≡ nodes.old + count.nodes (binding_of scope.now) (expr_view expr.now)) }
 {
@@ -91,6 +92,7 @@ fn bit_term(
 ) -> Result<Term, NoMemory>
     requires base { base ≤ 65536 }
     requires sound { IsSound (binding_of scope.now) (bit_select around.place (expr_view of.now) (expr_view index.now)) }
+    requires few { nodes.old + count.nodes (binding_of scope.now) (bit_select around.place (expr_view of.now) (expr_view index.now)) < 2 ^ 32 }
     ensures built { IfOk result (λ x. term_view x ≡ spec.term base (binding_of scope.now) (bit_select around.place (expr_view of.now) (expr_view index.now)) nodes.old around.shape) }
     ensures counted { OnOk result (nodes.new ≡ nodes.old + count.nodes (binding_of scope.now) (bit_select around.place (expr_view of.now) (expr_view index.now))) }
 {
@@ -118,6 +120,7 @@ fn part_term(
 ) -> Result<Term, NoMemory>
     requires base { base ≤ 65536 }
     requires sound { IsSound (binding_of scope.now) (part_select around.place (expr_view of.now) (expr_view high.now) (expr_view low.now) bracket) }
+    requires few { nodes.old + count.nodes (binding_of scope.now) (part_select around.place (expr_view of.now) (expr_view high.now) (expr_view low.now) bracket) < 2 ^ 32 }
     ensures built { IfOk result (λ x. term_view x ≡ spec.term base (binding_of scope.now) (part_select around.place (expr_view of.now) (expr_view high.now) (expr_view low.now) bracket) nodes.old around.shape) }
     ensures counted { OnOk result (nodes.new ≡ nodes.old + count.nodes (binding_of scope.now) (part_select around.place (expr_view of.now) (expr_view high.now) (expr_view low.now) bracket)) }
 {
@@ -143,6 +146,7 @@ fn slide_term(
 ) -> Result<Term, NoMemory>
     requires base { base ≤ 65536 }
     requires sound { IsSound (binding_of scope.now) (indexed_part around.place (expr_view of.now) (expr_view from.now) (expr_view width.now) up bracket) }
+    requires few { nodes.old + count.nodes (binding_of scope.now) (indexed_part around.place (expr_view of.now) (expr_view from.now) (expr_view width.now) up bracket) < 2 ^ 32 }
     ensures built { IfOk result (λ x. term_view x ≡ spec.term base (binding_of scope.now) (indexed_part around.place (expr_view of.now) (expr_view from.now) (expr_view width.now) up bracket) nodes.old around.shape) }
     ensures counted { OnOk result (nodes.new ≡ nodes.old + count.nodes (binding_of scope.now) (indexed_part around.place (expr_view of.now) (expr_view from.now) (expr_view width.now) up bracket)) }
 {
@@ -165,10 +169,11 @@ fn unary_term(
 ) -> Result<Term, NoMemory>
     requires base { base ≤ 65536 }
     requires sound { IsSound (binding_of scope.now) (unary_operator around.place op (expr_view a.now)) }
+    requires few { nodes.old + count.nodes (binding_of scope.now) (unary_operator around.place op (expr_view a.now)) < 2 ^ 32 }
     ensures built { IfOk result (λ x. term_view x ≡ spec.term base (binding_of scope.now) (unary_operator around.place op (expr_view a.now)) nodes.old around.shape) }
     ensures counted { OnOk result (nodes.new ≡ nodes.old + count.nodes (binding_of scope.now) (unary_operator around.place op (expr_view a.now))) }
 {
-    let node = take_if(names_thing(scope, a), nodes)?;
+    let node = take_if(names_thing(scope, a), nodes);
     let inner = operand_shape(op, shape_of(scope, a), around.shape);
     let a = term(alloc, base, scope, a, nodes, inner)?;
     around.unary(alloc, node, op, a)
@@ -188,10 +193,11 @@ fn binary_term(
 ) -> Result<Term, NoMemory>
     requires base { base ≤ 65536 }
     requires sound { IsSound (binding_of scope.now) (binary_operator around.place op (expr_view a.now) (expr_view b.now)) }
+    requires few { nodes.old + count.nodes (binding_of scope.now) (binary_operator around.place op (expr_view a.now) (expr_view b.now)) < 2 ^ 32 }
     ensures built { IfOk result (λ x. term_view x ≡ spec.term base (binding_of scope.now) (binary_operator around.place op (expr_view a.now) (expr_view b.now)) nodes.old around.shape) }
     ensures counted { OnOk result (nodes.new ≡ nodes.old + count.nodes (binding_of scope.now) (binary_operator around.place op (expr_view a.now) (expr_view b.now))) }
 {
-    let node = take_if(one_names_thing(scope, a, b), nodes)?;
+    let node = take_if(one_names_thing(scope, a, b), nodes);
     let (left, right) = operand_shapes(op, shape_of(scope, a), shape_of(scope, b), around.shape);
     let a = term(alloc, base, scope, a, nodes, left)?;
     let b = term(alloc, base, scope, b, nodes, right)?;
@@ -212,6 +218,7 @@ fn choice_term(
 ) -> Result<Term, NoMemory>
     requires base { base ≤ 65536 }
     requires sound { IsSound (binding_of scope.now) (conditional around.place (expr_view test.now) (expr_view yes.now) (expr_view no.now)) }
+    requires few { nodes.old + count.nodes (binding_of scope.now) (conditional around.place (expr_view test.now) (expr_view yes.now) (expr_view no.now)) < 2 ^ 32 }
     ensures built { IfOk result (λ x. term_view x ≡ spec.term base (binding_of scope.now) (conditional around.place (expr_view test.now) (expr_view yes.now) (expr_view no.now)) nodes.old around.shape) }
     ensures counted { OnOk result (nodes.new ≡ nodes.old + count.nodes (binding_of scope.now) (conditional around.place (expr_view test.now) (expr_view yes.now) (expr_view no.now))) }
 {
@@ -233,6 +240,7 @@ fn concat_term(
 ) -> Result<Term, NoMemory>
     requires base { base ≤ 65536 }
     requires sound { IsSound (binding_of scope.now) (concatenation around.place (exprs_of (exprs_view parts.now))) }
+    requires few { nodes.old + count.nodes (binding_of scope.now) (concatenation around.place (exprs_of (exprs_view parts.now))) < 2 ^ 32 }
     ensures built { IfOk result (λ x. term_view x ≡ spec.term base (binding_of scope.now) (concatenation around.place (exprs_of (exprs_view parts.now))) nodes.old around.shape) }
     ensures counted { OnOk result (nodes.new ≡ nodes.old + count.nodes (binding_of scope.now) (concatenation around.place (exprs_of (exprs_view parts.now)))) }
 {
@@ -253,6 +261,7 @@ fn repeat_term(
 ) -> Result<Term, NoMemory>
     requires base { base ≤ 65536 }
     requires sound { IsSound (binding_of scope.now) (replication around.place (expr_view times.now) (exprs_of (exprs_view parts.now))) }
+    requires few { nodes.old + count.nodes (binding_of scope.now) (replication around.place (expr_view times.now) (exprs_of (exprs_view parts.now))) < 2 ^ 32 }
     ensures built { IfOk result (λ x. term_view x ≡ spec.term base (binding_of scope.now) (replication around.place (expr_view times.now) (exprs_of (exprs_view parts.now))) nodes.old around.shape) }
     ensures counted { OnOk result (nodes.new ≡ nodes.old + count.nodes (binding_of scope.now) (replication around.place (expr_view times.now) (exprs_of (exprs_view parts.now)))) }
 {
@@ -272,6 +281,7 @@ pub fn alone(
 ) -> Result<Term, NoMemory>
     requires base { base ≤ 65536 }
     requires sound { IsSound (binding_of scope.now) (expr_view expr.now) }
+    requires few { nodes.old + count.nodes (binding_of scope.now) (expr_view expr.now) < 2 ^ 32 }
     ensures built { IfOk result (λ x. term_view x ≡ spec.alone base (binding_of scope.now) (expr_view expr.now) nodes.old) }
     ensures counted { OnOk result (nodes.new ≡ nodes.old + count.nodes (binding_of scope.now) (expr_view expr.now)) }
 {
@@ -290,13 +300,14 @@ pub fn condition_term(
 ) -> Result<Term, NoMemory>
     requires base { base ≤ 65536 }
     requires sound { IsSound (binding_of scope.now) (expr_view condition.now) }
+    requires few { nodes.old + count.condition_nodes (binding_of scope.now) (expr_view condition.now) < 2 ^ 32 }
     ensures built { IfOk result (λ x. term_view x ≡ spec.condition_term base (binding_of scope.now) (expr_view condition.now) nodes.old) }
     ensures counted { OnOk result (nodes.new ≡ nodes.old + count.condition_nodes (binding_of scope.now) (expr_view condition.now)) }
 {
     if !is_counted_condition(scope, condition) {
         return alone(alloc, base, scope, condition, nodes);
     }
-    let node = take(nodes)?;
+    let node = take(nodes);
     let term = alone(alloc, base, scope, condition, nodes)?;
     Ok(with_node(node, term))
 }
@@ -312,6 +323,7 @@ pub(crate) fn terms(
 ) -> Result<Vec<Term>, NoMemory>
     requires base { base ≤ 65536 }
     requires sound { AreSound (binding_of scope.now) (exprs_of (exprs_view parts.now)) }
+    requires few { nodes.old + count.all_nodes (binding_of scope.now) (exprs_of (exprs_view parts.now)) < 2 ^ 32 }
     ensures built { IfOk result (λ xs. terms_of (map term_view xs.items) ≡ spec.terms base (binding_of scope.now) (exprs_of (exprs_view parts.now)) nodes.old) }
     ensures counted { OnOk result (nodes.new ≡ nodes.old + count.all_nodes (binding_of scope.now) (exprs_of (exprs_view parts.now))) }
 {
@@ -333,6 +345,7 @@ pub fn right_side(
 ) -> Result<Term, NoMemory>
     requires base { base ≤ 65536 }
     requires sound { IsSound (binding_of scope.now) (expr_view expr.now) }
+    requires few { nodes.old + count.nodes (binding_of scope.now) (expr_view expr.now) < 2 ^ 32 }
     ensures built { IfOk result (λ x. term_view x ≡ spec.right_side base (binding_of scope.now) width (expr_view expr.now) nodes.old) }
     ensures counted { OnOk result (nodes.new ≡ nodes.old + count.nodes (binding_of scope.now) (expr_view expr.now)) }
 {

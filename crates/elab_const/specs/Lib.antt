@@ -6,3 +6,4 @@ pub mod Loops
 pub mod Calls
 pub mod Cases
 pub mod Weight
+pub mod FaultText

@@ -2,6 +2,7 @@ ghost use Rattle.std.specs.Prelude.{◌≡◌};
 ghost use Rattle.elab_const.specs.Scope as scope;
 ghost use Rattle.elab_const.specs.declared.fault.ConstFault.TheVariants as const_fault;
 ghost use Rattle.elab_const.specs.Calls.{told};
+ghost use Rattle.elab_const.specs.FaultText.{const_text};
 
 use cov_host::{NoMemory, Place};
 use std::alloc::{AllocError, AllocFailed};
@@ -22,6 +23,21 @@ pub enum ConstKind {
     /// A bound below 0 or above 1,048,575, or a repeat or part of less than one bit. The place is the `[` of the part,
     /// or the first token of the concatenation.
     BadRange = 5,
+}
+
+impl ConstKind {
+    /// The stage, the number and the name, as messages have them.
+    pub fn text(self) -> &'static str
+        ensures { result.now ≡ const_text self }
+    {
+        match self {
+            ConstKind::NotConstant => "const 1 NotConstant",
+            ConstKind::TooWide => "const 2 TooWide",
+            ConstKind::LoopNotConstant => "const 3 LoopNotConstant",
+            ConstKind::LoopTooLong => "const 4 LoopTooLong",
+            ConstKind::BadRange => "const 5 BadRange",
+        }
+    }
 }
 
 /// What is wrong, and where.

@@ -13,4 +13,6 @@ pub mod WalkPorts
 pub mod WalkItems
 pub mod NamedLemmas
 pub mod WalkOnes
+pub mod RoomLemmas
+pub mod JoinedNodes
 pub use Rattle.flat_laws.proofs as flat_laws

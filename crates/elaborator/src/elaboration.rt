@@ -12,6 +12,7 @@ ghost use Rattle.flat_design.specs.Flat.{elaborated, elaborated_from, module_of,
 ghost use Rattle.flat_design.specs.Processes.{driver_faults};
 ghost use Rattle.flat_design.specs.declared.fault.ElabFault.TheVariants as elab_fault;
 ghost use Rattle.elab_instances.specs.InstanceView.{instantiation_view};
+ghost use Rattle.tree_places.specs.Counted.{AreCountable};
 ghost use Rattle.verilog_tree.specs.View.{module_view, modules_view};
 
 use crate::ground::Ground;
@@ -29,8 +30,10 @@ use std::alloc::Global;
 use verilog_tree::{Module, Modules};
 
 /// The flat design of modules and the top of this name, or the first fault in the text. Memories are numbered after
-/// all signals, so what is wrong is found first, with the number of signals, and then the design is built.
+/// all signals, so what is wrong is found first, with the number of signals, and then the design is built. The line
+/// points and the counted nodes of a module can be numbered in 32 bits, as those of modules that are read can.
 pub fn elaborate(alloc: Global, modules: &Modules, top: &str) -> Result<Design, ElabFault>
+    requires { AreCountable (modules_view modules.now) }
     ensures design { IfOk result (λ design. answer (modules_view modules.now) top.now ≡ Ok (design_view design)) }
     ensures fault { IfErr result (IsAnsweredFault (modules_view modules.now) top.now) }
 {

@@ -1,6 +1,6 @@
 //! The instances of modules that items name, each with all below it (IEEE 1364-2001 clause 12.1.2).
 
-ghost use Rattle.std.specs.Prelude.{◌≡◌, ◌≤◌, MatchOption, false, true, IfOk, OnOk};
+ghost use Rattle.std.specs.Prelude.{◌≡◌, ◌≤◌, ◌<◌, ◌^◌, MatchOption, false, true, IfOk, OnOk};
 ghost use Rattle.elab_build.specs.Sound.{IsClear};
 ghost use Rattle.elab_declarations.specs.Constants.{overrides_view};
 ghost use Rattle.elab_instances.specs.InstanceView.{instantiation_view};
@@ -10,6 +10,7 @@ ghost use Rattle.elaborator.specs.Walk.{GoesBy, IsClean, WalksBy, around_here};
 ghost use Rattle.flat_design.specs.Flat as flat;
 ghost use Rattle.flat_design.specs.Instances as of_instances;
 ghost use Rattle.flat_design.specs.Scope.{binding_of};
+ghost use Rattle.tree_places.specs.Counted.{IsCountable, connections_nodes, ones_nodes};
 ghost use Rattle.verilog_tree.specs.View.{givens_view, module_view, modules_view, one_view, ones_view};
 
 use crate::entering::{Entered, enter};
@@ -40,6 +41,7 @@ pub(crate) fn walk_instances<'a>(
     requires declared { body.now.declared.now ≡ of_instances.declared (overrides_view body.now.given.now.overrides.items) (module_view body.now.given.now.module.now) }
     requires kept { IsKept walk.old }
     requires clear { IsClean walk.old.tally → IsClear (binding_of scope.now) }
+    requires few { ones_nodes (binding_of scope.now) (ones_view item.ones.now) < 2 ^ 32 }
     ensures { OnOk result (GoesBy ground.entry.base walk.old numbers walk.new numbers (λ b i l n st. flat.instances_of (flat.instance b (modules_view ground.entry.modules.now.modules.now) depth) b (around_here b (instantiation_view body.now.given.now) i (binding_of scope.now)) item.entry.place (item_of item.entry.module.now (givens_view item.entry.overrides.now) (ones_view item.entry.ones.now)) (flat.module_of (modules_view ground.entry.modules.now.modules.now) item.entry.module.now.name) st) 0 0) }
 {
     let found = find_instances(
@@ -75,6 +77,7 @@ fn walk_ones<'a>(
     requires declared { body.now.declared.now ≡ of_instances.declared (overrides_view body.now.given.now.overrides.items) (module_view body.now.given.now.module.now) }
     requires kept { IsKept walk.old }
     requires clear { IsClean walk.old.tally → IsClear (binding_of scope.now) }
+    requires few { ones_nodes (binding_of scope.now) (ones_view ones.now) < 2 ^ 32 }
     ensures { OnOk result (GoesBy ground.entry.base walk.old numbers walk.new numbers (λ b i l n st. flat.all_instances (flat.instance b (modules_view ground.entry.modules.now.modules.now) depth) b (around_here b (instantiation_view body.now.given.now) i (binding_of scope.now)) item.entry.place (item_of item.entry.module.now (givens_view item.entry.overrides.now) (ones_view item.entry.ones.now)) (module_view of.now.module.now) (overrides_view of.now.overrides.items) (ones_view ones.now) st) 0 0) }
 {
     for one in ones {
@@ -100,6 +103,7 @@ fn walk_one<'a>(
     requires declared { body.now.declared.now ≡ of_instances.declared (overrides_view body.now.given.now.overrides.items) (module_view body.now.given.now.module.now) }
     requires kept { IsKept walk.old }
     requires clear { IsClean walk.old.tally → IsClear (binding_of scope.now) }
+    requires few { connections_nodes (binding_of scope.now) (one_view one.now).given < 2 ^ 32 }
     ensures { OnOk result (GoesBy ground.entry.base walk.old numbers walk.new numbers (λ b i l n st. flat.one_instance (flat.instance b (modules_view ground.entry.modules.now.modules.now) depth) b (around_here b (instantiation_view body.now.given.now) i (binding_of scope.now)) item.entry.place (item_of item.entry.module.now (givens_view item.entry.overrides.now) (ones_view item.entry.ones.now)) (module_view of.now.module.now) (overrides_view of.now.overrides.items) (one_view one.now) st) 0 0) }
 {
     if !is_declared_here(body.declared, &one.name) {
@@ -134,6 +138,7 @@ pub(crate) fn walk_instance<'a>(
 ) -> Result<Option<Scope>, NoMemory>
     requires base { ground.base ≤ 65536 }
     requires few { walk.old.tally.ended ≡ false → walk.old.memories ≤ walk.old.tally.counts.words }
+    requires countable { IsCountable (module_view given.now.module.now) }
     ensures walks { OnOk result (WalksBy ground.entry.base walk.old walk.new (λ b st. flat.instance b (modules_view ground.entry.modules.now.modules.now) depth (instantiation_view given.now) st)) }
     ensures scope { IfOk result (λ found. MatchOption found (walk.new.tally.ended ≡ true) (λ scope. (walk.old.tally.ended ≡ false) × (binding_of scope ≡ of_instances.scope_of (instantiation_view given.now) walk.old.tally.counts.signals walk.old.memories))) }
     ensures few { OnOk result (walk.new.tally.ended ≡ false → walk.new.memories ≤ walk.new.tally.counts.words) }

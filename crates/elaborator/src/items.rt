@@ -5,6 +5,7 @@ ghost use Rattle.elab_build.specs.Sound.{IsClear};
 ghost use Rattle.elab_declarations.specs.Constants.{overrides_view};
 ghost use Rattle.elab_instances.specs.InstanceView.{instantiation_view};
 ghost use Rattle.elaborator.specs.Kept.{IsKept};
+ghost use Rattle.elaborator.specs.Room.{HaveRoom, TakesFew, form_room, items_room};
 ghost use Rattle.elaborator.specs.Walk.{GoesBy, IsClean, around_here, items_lines, items_nodes};
 ghost use Rattle.flat_design.specs.Flat as flat;
 ghost use Rattle.flat_design.specs.Instances as of_instances;
@@ -46,6 +47,7 @@ pub(crate) fn walk_items<'a>(
     requires declared { body.now.declared.now ≡ of_instances.declared (overrides_view body.now.given.now.overrides.items) (module_view body.now.given.now.module.now) }
     requires kept { IsKept walk.old }
     requires clear { IsClean walk.old.tally → IsClear (binding_of scope.old) }
+    requires few { HaveRoom numbers.old (items_lines (items_view items.now)) (items_room (binding_of scope.old) (items_view items.now)) }
     ensures goes { OnOk result (GoesBy ground.entry.base walk.old numbers.old walk.new numbers.new (λ b i l n st. flat.items (flat.instance b (modules_view ground.entry.modules.now.modules.now) depth) b (modules_view ground.entry.modules.now.modules.now) (around_here b (instantiation_view body.now.given.now) i (binding_of scope.old)) (items_view items.now) l n st) (items_lines (items_view items.now)) (items_nodes (binding_of scope.old) (items_view items.now))) }
     ensures scope { OnOk result (binding_of scope.new ≡ binding_of scope.old) }
 {
@@ -70,7 +72,9 @@ fn walk_item<'a>(
     requires declared { body.now.declared.now ≡ of_instances.declared (overrides_view body.now.given.now.overrides.items) (module_view body.now.given.now.module.now) }
     requires kept { IsKept walk.old }
     requires clear { IsClean walk.old.tally → IsClear (binding_of scope.old) }
+    requires few { HaveRoom numbers.old (form_lines (item_form_view item.now.form)) (form_room (binding_of scope.old) (item_form_view item.now.form)) }
     ensures goes { OnOk result (GoesBy ground.entry.base walk.old numbers.old walk.new numbers.new (λ b i l n st. flat.item (flat.instance b (modules_view ground.entry.modules.now.modules.now) depth) b (modules_view ground.entry.modules.now.modules.now) (around_here b (instantiation_view body.now.given.now) i (binding_of scope.old)) item.now.place (item_form_view item.now.form) l n st) (form_lines (item_form_view item.now.form)) (form_nodes (binding_of scope.old) (item_form_view item.now.form))) }
+    ensures few { OnOk result (TakesFew numbers.old numbers.new (form_lines (item_form_view item.now.form)) (form_nodes (binding_of scope.old) (item_form_view item.now.form))) }
     ensures scope { OnOk result (binding_of scope.new ≡ binding_of scope.old) }
 {
     let place = item.place;

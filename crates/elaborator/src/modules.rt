@@ -4,6 +4,7 @@ ghost use Rattle.std.specs.Prelude.{◌≡◌, [], ◌∷◌, IfOk, OnOk};
 ghost use Rattle.std.specs.Option.{option_map};
 ghost use Rattle.flat_design.specs.Faults.{two_modules};
 ghost use Rattle.flat_design.specs.Flat.{module_of};
+ghost use Rattle.tree_places.specs.Counted.{AreCountable};
 ghost use Rattle.verilog_tree.specs.View.{module_view, modules_view};
 ghost use Rattle.elaborator.specs.Modules.{first_places, module_faults, or_bound};
 ghost use Rattle.elab_scope.specs.NameMap.{bound_to};
@@ -21,6 +22,7 @@ pub(crate) struct ModuleTable<'a> {
     modules: &'a [Module],
     places: NameMap<usize>,
     ghost firsts: { bound_to places ≡ first_places 0 (modules_view modules.now) },
+    ghost countable: { AreCountable (modules_view modules.now) },
 }
 
 impl<'a> ModuleTable<'a> {
@@ -30,6 +32,7 @@ impl<'a> ModuleTable<'a> {
         modules: &'a [Module],
         tally: &mut Tally<'a>,
     ) -> Result<ModuleTable<'a>, NoMemory>
+        requires { AreCountable (modules_view modules.now) }
         ensures modules { IfOk result (λ table. table.modules.now ≡ modules.now) }
         ensures met { OnOk result (tally.new ≡ after_faults tally.old (two_modules [] (modules_view modules.now))) }
     {

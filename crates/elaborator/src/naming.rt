@@ -8,6 +8,7 @@ ghost use Rattle.elab_scope.specs.Tally.{after_faults};
 ghost use Rattle.elaborator.specs.Named.{AreOf, HaveNone};
 ghost use Rattle.flat_design.specs.Fault.{Fault};
 ghost use Rattle.flat_design.specs.Scope.{binding_of};
+ghost use Rattle.tree_places.specs.Counted.{IsCountable};
 ghost use Rattle.verilog_tree.specs.View.{givens_view, module_view, modules_view};
 
 use crate::modules::ModuleTable;
@@ -34,6 +35,7 @@ pub(crate) struct InstanceItem<'a> {
 pub(crate) struct InstancesOf<'a> {
     pub(crate) module: &'a Module,
     pub(crate) overrides: Vec<Override>,
+    ghost countable: { IsCountable (module_view module.now) },
 }
 
 /// Whether two modules have one name.

@@ -1,7 +1,8 @@
 //! The values that nets are declared with (IEEE 1364-2001 clause 6.1.1).
 
-ghost use Rattle.std.specs.Prelude.{◌≡◌, ◌≤◌, length, OnOk};
+ghost use Rattle.std.specs.Prelude.{◌≡◌, ◌≤◌, ◌+◌, ◌<◌, ◌^◌, length, OnOk};
 ghost use Rattle.elab_build.specs.Sound.{IsClear};
+ghost use Rattle.elaborator.specs.Room.{TakesFew};
 ghost use Rattle.elaborator.specs.Walk.{GoesBy, IsClean, around_here};
 ghost use Rattle.flat_design.specs.Flat.{net_value, net_values};
 ghost use Rattle.flat_design.specs.Instances.{Instantiation, add_process};
@@ -30,8 +31,10 @@ pub(crate) fn walk_nets<'a>(
 ) -> Result<(), NoMemory>
     requires base { ground.base ≤ 65536 }
     requires clear { IsClean walk.old.tally → IsClear (binding_of scope.now) }
+    requires few { numbers.old.node + count.values_nodes (binding_of scope.now) (declareds_view names.now) < 2 ^ 32 }
     ensures goes { OnOk result ((given : Instantiation) → GoesBy ground.entry.base walk.old numbers.old walk.new numbers.new (λ b i l n st. net_values (around_here b given i (binding_of scope.now)) place (declareds_view names.now) n st) 0 (count.values_nodes (binding_of scope.now) (declareds_view names.now))) }
     ensures clean { OnOk result (IsClean walk.new.tally → IsClean walk.old.tally) }
+    ensures few { OnOk result (TakesFew numbers.old numbers.new 0 (count.values_nodes (binding_of scope.now) (declareds_view names.now))) }
 {
     for name in names {
         walk_net(ground, scope, place, name, numbers, walk)?;
@@ -50,8 +53,10 @@ fn walk_net<'a>(
 ) -> Result<(), NoMemory>
     requires base { ground.base ≤ 65536 }
     requires clear { IsClean walk.old.tally → IsClear (binding_of scope.now) }
+    requires few { numbers.old.node + count.value_nodes (binding_of scope.now) (declared_view net.now) < 2 ^ 32 }
     ensures goes { OnOk result ((given : Instantiation) → GoesBy ground.entry.base walk.old numbers.old walk.new numbers.new (λ b i l n st. net_value (around_here b given i (binding_of scope.now)) place net.now.name (expr_option_view net.now.value) n st) 0 (count.value_nodes (binding_of scope.now) (declared_view net.now))) }
     ensures clean { OnOk result (IsClean walk.new.tally → IsClean walk.old.tally) }
+    ensures few { OnOk result (TakesFew numbers.old numbers.new 0 (count.value_nodes (binding_of scope.now) (declared_view net.now))) }
 {
     match &net.value {
         Some(value) => walk_value(ground, scope, place, &net.name, value, numbers, walk),
@@ -71,8 +76,10 @@ fn walk_value<'a>(
 ) -> Result<(), NoMemory>
     requires base { ground.base ≤ 65536 }
     requires clear { IsClean walk.old.tally → IsClear (binding_of scope.now) }
+    requires few { numbers.old.node + count.nodes (binding_of scope.now) (expr_view value.now) < 2 ^ 32 }
     ensures goes { OnOk result (GoesBy ground.entry.base walk.old numbers.old walk.new numbers.new (λ b i l n st. add_process (continuous b (binding_of scope.now) i (length st.design.processes) place (identifier name.now.place name.now.name) (expr_view value.now) n) st) 0 (count.nodes (binding_of scope.now) (expr_view value.now))) }
     ensures clean { OnOk result (IsClean walk.new.tally → IsClean walk.old.tally) }
+    ensures few { OnOk result (TakesFew numbers.old numbers.new 0 (count.nodes (binding_of scope.now) (expr_view value.now))) }
 {
     let alloc = ground.alloc;
     let number = walk.tally.counts().processes;

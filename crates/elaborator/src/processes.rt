@@ -1,10 +1,11 @@
 //! The processes of items and of joined ports: what is found in them, and where there is no fault, their place in the
 //! design (IEEE 1364-2001 clauses 6.1, 9.9 and 12.3).
 
-ghost use Rattle.std.specs.Prelude.{◌≡◌, ◌≤◌, ◌+◌, length, OnOk};
+ghost use Rattle.std.specs.Prelude.{◌≡◌, ◌≤◌, ◌+◌, ◌<◌, ◌^◌, length, OnOk};
 ghost use Rattle.elab_build.specs.Sound.{IsClear};
 ghost use Rattle.elab_scope.specs.Entries.{IsVectorRange};
 ghost use Rattle.elab_scope.specs.View.{name_view};
+ghost use Rattle.elaborator.specs.Room.{HaveRoom, TakesFew};
 ghost use Rattle.elaborator.specs.Walk.{GoesBy, IsClean};
 ghost use Rattle.flat_design.specs.Instances.{add_process};
 ghost use Rattle.flat_design.specs.Numbering as count;
@@ -35,7 +36,9 @@ pub(crate) fn walk_assign<'a>(
 ) -> Result<(), NoMemory>
     requires base { ground.base ≤ 65536 }
     requires clear { IsClean walk.old.tally → IsClear (binding_of scope.now) }
-    ensures { OnOk result (GoesBy ground.entry.base walk.old numbers.old walk.new numbers.new (λ b i l n st. add_process (continuous b (binding_of scope.now) i (length st.design.processes) place (expr_view target.now) (expr_view value.now) n) st) 0 (count.nodes (binding_of scope.now) (expr_view target.now) + count.nodes (binding_of scope.now) (expr_view value.now))) }
+    requires few { numbers.old.node + count.nodes (binding_of scope.now) (expr_view target.now) + count.nodes (binding_of scope.now) (expr_view value.now) < 2 ^ 32 }
+    ensures goes { OnOk result (GoesBy ground.entry.base walk.old numbers.old walk.new numbers.new (λ b i l n st. add_process (continuous b (binding_of scope.now) i (length st.design.processes) place (expr_view target.now) (expr_view value.now) n) st) 0 (count.nodes (binding_of scope.now) (expr_view target.now) + count.nodes (binding_of scope.now) (expr_view value.now))) }
+    ensures few { OnOk result (TakesFew numbers.old numbers.new 0 (count.nodes (binding_of scope.now) (expr_view target.now) + count.nodes (binding_of scope.now) (expr_view value.now))) }
 {
     let alloc = ground.alloc;
     let number = walk.tally.counts().processes;
@@ -67,8 +70,10 @@ pub(crate) fn walk_always<'a>(
 ) -> Result<(), NoMemory>
     requires base { ground.base ≤ 65536 }
     requires clear { IsClean walk.old.tally → IsClear (binding_of scope.old) }
+    requires few { HaveRoom numbers.old (count.lines (statement_view body.now)) (count.statement_nodes (binding_of scope.old) (statement_view body.now)) }
     ensures goes { OnOk result (GoesBy ground.entry.base walk.old numbers.old walk.new numbers.new (λ b i l n st. add_process (always b (binding_of scope.old) i (length st.design.processes) place when.now (statement_view body.now) l n) st) (count.lines (statement_view body.now)) (count.statement_nodes (binding_of scope.old) (statement_view body.now))) }
     ensures kept { OnOk result (binding_of scope.new ≡ binding_of scope.old) }
+    ensures few { OnOk result (TakesFew numbers.old numbers.new (count.lines (statement_view body.now)) (count.statement_nodes (binding_of scope.old) (statement_view body.now))) }
 {
     let alloc = ground.alloc;
     let number = walk.tally.counts().processes;
@@ -103,6 +108,7 @@ pub(crate) fn walk_input<'a>(
     requires base { ground.base ≤ 65536 }
     requires port { IsVectorRange port.range }
     requires clear { IsClean walk.old.tally → IsClear (binding_of scope.now) }
+    requires few { count.nodes (binding_of scope.now) (expr_view value.now) < 2 ^ 32 }
     ensures { OnOk result (GoesBy ground.entry.base walk.old numbers walk.new numbers (λ b i l n st. add_process (joined_input b (binding_of scope.now) i (length st.design.processes) place (name_view label.entry) port (expr_view value.now)) st) 0 0) }
 {
     let number = walk.tally.counts().processes;
@@ -134,6 +140,7 @@ pub(crate) fn walk_output<'a>(
     requires base { ground.base ≤ 65536 }
     requires port { IsVectorRange port.range }
     requires clear { IsClean walk.old.tally → IsClear (binding_of scope.now) }
+    requires few { count.nodes (binding_of scope.now) (expr_view value.now) < 2 ^ 32 }
     ensures { OnOk result (GoesBy ground.entry.base walk.old numbers walk.new numbers (λ b i l n st. add_process (joined_output b (binding_of scope.now) i (length st.design.processes) place port (expr_view value.now)) st) 0 0) }
 {
     let alloc = ground.alloc;

@@ -13,3 +13,4 @@ pub mod Instances
 pub mod Connections
 pub mod Flat
 pub mod Faults
+pub mod FaultText

@@ -1,6 +1,7 @@
 ghost use Rattle.std.specs.Prelude.{◌≡◌};
 ghost use Rattle.flat_design.specs.declared.fault.ElabFault.TheVariants as variant;
 ghost use Rattle.flat_design.specs.Fault.{limit_number, told_constant};
+ghost use Rattle.flat_design.specs.FaultText.{elab_text};
 
 use cov_host::{Name, NoMemory, Place};
 use elab_const::ConstFault;
@@ -46,6 +47,30 @@ pub enum ElabKind {
     /// A loop variable read outside its loop, an inner loop over the variable of an outer one, a memory without an
     /// index, a select on what has no range, a constant select out of range, or a memory in a list or connection.
     WrongUse = 14,
+}
+
+impl ElabKind {
+    /// The stage, the number and the name, as messages have them.
+    pub fn text(self) -> &'static str
+        ensures { result.now ≡ elab_text self }
+    {
+        match self {
+            ElabKind::NoModule => "elab 1 NoModule",
+            ElabKind::TwoModules => "elab 2 TwoModules",
+            ElabKind::Recursion => "elab 3 Recursion",
+            ElabKind::Undeclared => "elab 4 Undeclared",
+            ElabKind::TwiceDeclared => "elab 5 TwiceDeclared",
+            ElabKind::PortMismatch => "elab 6 PortMismatch",
+            ElabKind::TwoDrivers => "elab 7 TwoDrivers",
+            ElabKind::MixedAssign => "elab 8 MixedAssign",
+            ElabKind::Incomplete => "elab 9 Incomplete",
+            ElabKind::EventNotBit => "elab 10 EventNotBit",
+            ElabKind::SelfAssign => "elab 11 SelfAssign",
+            ElabKind::Limit => "elab 12 Limit",
+            ElabKind::WrongTarget => "elab 13 WrongTarget",
+            ElabKind::WrongUse => "elab 14 WrongUse",
+        }
+    }
 }
 
 /// The limits of a design.

@@ -1,3 +1,4 @@
 pub mod Names
 pub mod Gathering
 pub mod Told
+pub mod Lines

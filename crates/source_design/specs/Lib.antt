@@ -3,3 +3,4 @@ pub mod Accepted
 pub mod Refusals
 pub mod Staging
 pub mod Reading
+pub mod FaultLine

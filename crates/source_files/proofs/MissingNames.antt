@@ -11,7 +11,7 @@ use Rattle.verilog_lexer.specs.Conditions.{after_test, closing, going_on, innerm
 use Rattle.verilog_lexer.specs.Defines.{DefineText}
 use Rattle.verilog_lexer.specs.Directive.{directive_of, is_passed_over, is_refused}
 use Rattle.verilog_lexer.specs.Piece.{Piece, Test, blank, token, define, undefine, condition, inclusion, expansion, fault, if_defined, if_undefined, else_if_defined, otherwise, end_of_condition, accent_piece, based_as, based_piece, comment_piece, condition_piece, define_piece, directive_word, file_piece, include_piece, is_file_name, left_out_accent, left_out_piece, left_out_quote, left_out_slash, mark_piece, operator_piece, or_piece, other_piece, parenthesis_piece, piece_length, quoted_piece, read_piece, slash_piece, system_piece, up_to, word_piece}
-use Rattle.verilog_lexer.specs.Reading.{Entry, Inner, Reading, Step, beginning, ended, entered, expanded, file, front_piece, included, inner_at, is_continuation, macro_text, meaning, opened, opened_file, read_roots, read_source, root_passage, scan, tokens_of}
+use Rattle.verilog_lexer.specs.Reading.{Entry, Inner, Reading, Step, beginning, ended, entered, expanded, file, front_piece, included, inner_at, is_continuation, looked_up, macro_text, meaning, opened, opened_file, put_in, read_roots, read_source, root_passage, scan, tokens_of}
 use Rattle.verilog_lexer.specs.Run.{is_blank, is_white, is_within_line, run, through_pair, through_quote}
 use Rattle.verilog_lexer.specs.Sources.{SourceText, include_place}
 use Rattle.verilog_lexer.specs.Spot.{after}
@@ -326,9 +326,13 @@ included_fine : (sources : List SourceText) (spot : _) (name : List ℕ) (found 
 included_fine sources spot name None reading good = opened_file_fine spot name 0 None reading good
 included_fine sources spot name (Some place) reading good = opened_file_fine spot name place (slice_get sources place) reading good
 
+looked_up_fine : (sources : List SourceText) (spot : _) (entry : Entry) (reading : Reading) → GoodEntry (Some entry) → Fine Any (looked_up sources spot entry reading)
+looked_up_fine sources spot (macro_text text) reading good = ok_fine Any _ tt
+looked_up_fine sources spot (file name) reading good = included_fine sources spot name (include_place sources name) reading good
+
 opened_fine : (sources : List SourceText) (spot : _) (entry : Entry) (reading : Reading) → GoodEntry (Some entry) → Fine Any (opened sources spot entry reading)
-opened_fine sources spot (macro_text text) reading good = ok_fine Any _ tt
-opened_fine sources spot (file name) reading good = included_fine sources spot name (include_place sources name) reading good
+opened_fine sources spot entry reading good =
+    then_fine Any Any (looked_up sources spot entry reading) (put_in spot) (looked_up_fine sources spot entry reading good) (λ inside p. if_fine Any _ _ _ (at_fine Any _ _ _ tt) (ok_fine Any _ tt))
 
 inner_fine : (depth : ℕ) (sources : List SourceText) → InnerFine (inner_at depth sources)
 unfolding inner_at

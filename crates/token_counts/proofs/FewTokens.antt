@@ -8,13 +8,13 @@ use Rattle.cov_host.specs.declared.place.Place.{Place}
 use Rattle.verilog_lexer.specs.Answer.{Answer, ◌>>=◌, fault_at}
 use Rattle.verilog_lexer.specs.Defines.{DefineText}
 use Rattle.verilog_lexer.specs.Piece.{Piece, blank, token, define, undefine, condition, inclusion, expansion, fault, piece_length}
-use Rattle.verilog_lexer.specs.Reading.{Reading, Step, Entry, macro_text, file, Inner, goes, meaning, front_piece, entered, scan, scan_passage, opened_file, included, inner_at, read_passage, root_passage, read_source, read_roots, beginning, tokens_of}
+use Rattle.verilog_lexer.specs.Reading.{Reading, Step, Entry, macro_text, file, Inner, goes, meaning, front_piece, entered, scan, scan_passage, Opened, macro_opened, file_opened, opened_file, included, with_less_room, put_in, inner_at, read_passage, root_passage, read_source, read_roots, beginning, tokens_of}
 use Rattle.verilog_lexer.specs.Sources.{SourceText, include_place}
 use Rattle.verilog_lexer.specs.Spot.{after, within_macro, file_spot}
 use Rattle.verilog_lexer.specs.Tokens.{Lexeme, bad_number, sound_number, room_for_one, short_enough, with_token}
 use Rattle.verilog_lexer.specs.declared.fault.LexKind.TheVariants.{TooManyTokens}
 use Rattle.verilog_lexer.specs.declared.token.TokenKind.{TokenKind}
-use Rattle.verilog_lexer.proofs.ReadTokens.{no_answer, same_answer, bind_ok, ended_same, meaning_is, with_token_is}
+use Rattle.verilog_lexer.proofs.ReadTokens.{no_answer, same_answer, bind_ok, room_ok, ended_same, meaning_is, with_token_is}
 
 abbrev AreFew : List Lexeme → Type 0
 AreFew tokens = length tokens ≤ 4194304
@@ -75,18 +75,23 @@ module _ (inner : Inner) (keeps : (spot : _) (entry : Entry) (old new : Reading)
 module _ (sources : List SourceText) where
   file_few : (inner : Inner) (spot : _) (name : List ℕ) (found : Option ℕ) (old new : Reading) → AreFew old.tokens
       → ((text : List ℕ) (spot : _) (ending : Option (List _)) (reading : Reading) → AreFew reading.tokens → scan inner ending 0 spot text reading ≡ Ok new → AreFew new.tokens)
-      → (included sources spot name found old >>= λ inside. scan_passage inner inside.passage inside.reading) ≡ Ok new → AreFew new.tokens
+      → (included sources spot name found old >>= put_in spot >>= λ inside. scan_passage inner inside.passage inside.reading) ≡ Ok new → AreFew new.tokens
   file_few inner spot name None old new few scanned is = absurd (no_answer _ new is)
   file_few inner spot name (Some number) old new few scanned is = by_source (slice_get sources number) is
     where
-      by_source : (source : Option SourceText) → (opened_file spot name number source old >>= λ inside. scan_passage inner inside.passage inside.reading) ≡ Ok new → AreFew new.tokens
+      by_source : (source : Option SourceText) → (opened_file spot name number source old >>= put_in spot >>= λ inside. scan_passage inner inside.passage inside.reading) ≡ Ok new → AreFew new.tokens
       by_source None is = absurd (no_answer _ new is)
-      by_source (Some source) is = scanned source.bytes (file_spot spot (number + 1)) (Some old.conditions) (record old { conditions = [] }) few is
+      by_source (Some source) is =
+          let put : Opened = file_opened spot number source old in
+          scanned source.bytes (file_spot spot (number + 1)) (Some old.conditions) (with_less_room put).reading few (room_ok spot put (λ inside. scan_passage inner inside.passage inside.reading) new is)
 
   inner_few : (depth : ℕ) (spot : _) (entry : Entry) (old new : Reading) → AreFew old.tokens → inner_at depth sources spot entry old ≡ Ok new → AreFew new.tokens
   unfolding inner_at
   inner_few zero spot entry old new few is = absurd (no_answer _ new is)
-  inner_few (suc depth) spot (macro_text body) old new few is = scan_few (inner_at depth sources) (inner_few depth) body (within_macro spot) None 0 old new few is
+  inner_few (suc depth) spot (macro_text body) old new few is =
+      let put : Opened = macro_opened spot body old in
+      scan_few (inner_at depth sources) (inner_few depth) body (within_macro spot) None 0 (with_less_room put).reading new few
+      (room_ok spot put (λ inside. scan_passage (inner_at depth sources) inside.passage inside.reading) new is)
   inner_few (suc depth) spot (file name) old new few is =
       file_few (inner_at depth sources) spot name (include_place sources name) old new few (λ text spot ending reading few scanned. scan_few (inner_at depth sources) (inner_few depth) text spot ending 0 reading new few scanned) is
 

@@ -1,21 +1,23 @@
--- Where the processes of items begin that tokens spell, and how many line points and counted nodes they have.
+-- Where the processes of items begin that tokens spell, and how many line points and counted nodes they and connections have.
 use Rattle.std.proofs.Common.{◌≡◌, ◌+◌, ◌≤◌, ℕ, List, [], ◌∷◌, ◌++◌, map, Option, Some, None, refl, ap, arith}
 use Rattle.std.specs.Prelude.{flat_map}
 use Rattle.cov_host.specs.declared.place.Place.{Place}
 use Rattle.flat_design.specs.Numbering.{form_lines, form_nodes, nodes, value_nodes, values_nodes}
 use Rattle.flat_design.specs.Scope.{Scope}
-use Rattle.grammar_rules.specs.Rule.{nest}
+use Rattle.grammar_rules.specs.Rule.{both, made, nest}
 use Rattle.grammar_rules.proofs.Holds.{AllOf}
+use Rattle.verilog_grammar.specs.declared.kind.Kind.TheVariants as k
 use Rattle.verilog_grammar.specs.declared.body.Body.{Body}
 use Rattle.verilog_grammar.specs.declared.body.Body.TheVariants.{Combinational, Clocked}
 use Rattle.verilog_grammar.specs.Language.{verilog, target, statement}
-use Rattle.verilog_grammar.specs.Parts.{an_expression, named, name_rule}
+use Rattle.verilog_grammar.specs.Parts.{after, an_expression, in_parentheses, named, name_rule, optional}
 use Rattle.verilog_grammar.specs.Statements.{set_rule}
-use Rattle.verilog_grammar.specs.Modules.{PortHead, Entry, new_port, more_name, port_items, plist_rule, header_ports_rule, port_item_rule, net_of, net_rule, net_item_rule, variable_item_rule, integer_item_rule, parameter_item_rule, continuous_item_of, continuous_item_rule, Timed, timed_rule, always_item_rule, initial_item_rule, instance_item_rule, item_rule, items_rule}
+use Rattle.verilog_grammar.specs.Modules.{PortHead, Entry, new_port, more_name, port_items, plist_rule, header_ports_rule, port_item_rule, net_of, net_rule, net_item_rule, variable_item_rule, integer_item_rule, parameter_item_rule, continuous_item_of, continuous_item_rule, Timed, timed_rule, always_item_rule, initial_item_rule, connected_by_name, connected_by_place, connections_by_place, connections_rule, one_rule, instance_item_rule, item_rule, items_rule}
 use Rattle.verilog_tree.specs.declared.item.Named.{Named}
-use Rattle.verilog_tree.specs.Tree.{Expr, Declared, Item}
+use Rattle.verilog_tree.specs.Tree.{Expr, Declared, Given, Item, One}
 use Rattle.parsed_modules.proofs.Lists.{all_in, all_map, all_flat_map}
 use Rattle.parsed_modules.proofs.TokensHold.{Spelling, IfSome}
+use Rattle.tree_places.specs.Counted.{connections_nodes, joined_nodes, ones_nodes, option_nodes}
 use Rattle.tree_places.specs.Placed.{IsPlaced, IsPlacedBody, IsPlacedForm, IsPlacedNet}
 use Rattle.tree_places.proofs.Expressions.{IsAt}
 use Rattle.tree_places.proofs.Statements.{parts, total_append}
@@ -28,9 +30,9 @@ IsPlacedItem P x = IsPlacedForm P x.form
 abbrev pub ArePlacedItems : (Place → Type 0) → List Item → Type 0
 ArePlacedItems P xs = AllOf (IsPlacedItem P) xs
 
--- the line points and counted nodes of an item
+-- the line points and counted nodes of an item and of its connections
 abbrev pub item_parts : Scope → Item → ℕ
-item_parts g x = form_lines x.form + form_nodes g x.form
+item_parts g x = form_lines x.form + form_nodes g x.form + joined_nodes g x.form
 
 -- ---- ports, which have no process
 
@@ -73,6 +75,38 @@ sets_parts g p (s ∷ sets) = omega (arith, sets_parts g p sets)
 joined_parts : (g : Scope) (each : List (List Item)) → total (item_parts g) (flat_map (λ xs. xs) each) ≡ total (λ xs. total (item_parts g) xs) each
 joined_parts g [] = refl
 joined_parts g (xs ∷ each) = omega (arith, total_append (item_parts g) xs (flat_map (λ ys. ys) each), joined_parts g each)
+
+-- ---- connections
+
+-- those of a connection
+abbrev given_nodes : Scope → Given → ℕ
+given_nodes g c = option_nodes g c.value
+
+option_total : (g : Scope) (e : Option Expr) → option_nodes g e ≡ total_if (nodes g) e
+option_total g None = refl
+option_total g (Some e) = refl
+
+placed_nodes : (g : Scope) (es : List (Option Expr)) → total (given_nodes g) (map connected_by_place es) ≡ total (total_if (nodes g)) es
+placed_nodes g [] = refl
+placed_nodes g (e ∷ es) = omega (arith, option_total g e, placed_nodes g es)
+
+connected_nodes : (g : Scope) (es : List (Option Expr)) → total (given_nodes g) (connections_by_place es) ≤ total (total_if (nodes g)) es
+connected_nodes g [] = omega arith
+connected_nodes g (None ∷ []) = omega arith
+connected_nodes g (None ∷ e ∷ es) = omega (arith, placed_nodes g (None ∷ e ∷ es))
+connected_nodes g (Some e ∷ es) = omega (arith, placed_nodes g (Some e ∷ es))
+
+givens_nodes : (g : Scope) (cs : List Given) → connections_nodes g cs ≡ total (given_nodes g) cs
+givens_nodes g [] = refl
+givens_nodes g (c ∷ cs) = ap (λ n. given_nodes g c + n) (givens_nodes g cs)
+
+-- those of an instance
+abbrev one_nodes : Scope → One → ℕ
+one_nodes g o = connections_nodes g o.given
+
+instances_nodes : (g : Scope) (os : List One) → ones_nodes g os ≡ total (one_nodes g) os
+instances_nodes g [] = refl
+instances_nodes g (o ∷ os) = ap (λ n. one_nodes g o + n) (instances_nodes g os)
 
 module _ (P : Place → Type 0) (g : Scope) (S : Spelling verilog (IsAt P)) (shrinks : Shrinks S) (expressions : Takes S an_expression (IsPlaced P) (nodes g)) (targets : Takes S (nest target) (IsPlaced P) (nodes g)) (statements : (b : Body) → Takes S (nest (statement b)) (IsPlacedBody P) (parts g)) where
   name_takes : Takes S name_rule (λ x. P x.place) (λ x. 1)
@@ -160,9 +194,25 @@ module _ (P : Place → Type 0) (g : Scope) (S : Spelling verilog (IsAt P)) (shr
   unfolding initial_item_rule
   initial_item_takes = made_takes (any_takes shrinks) (λ p q. (tt, tt)) (λ p. omega arith)
 
+  -- ---- instances
+
+  connection_takes : Takes S (made connected_by_name (both (after k.Dot name_rule) (in_parentheses (optional an_expression)))) (λ c. Unit {0}) (given_nodes g)
+  connection_takes = made_takes {w = λ p. 0 + (1 + total_if (nodes g) p.1)} (both_take (any_takes shrinks) (after_takes (before_takes (optional_takes expressions)))) (λ p q. tt) (λ p. omega (arith, option_total g p.1))
+
+  connections_take : Takes S connections_rule (λ cs. Unit {0}) (connections_nodes g)
+  unfolding connections_rule
+  connections_take =
+      either_takes (less_takes {w = λ cs. total (given_nodes g) cs} (listed_takes connection_takes) (λ cs q. tt) (λ cs. omega (arith, givens_nodes g cs)))
+      (made_takes {w = λ es. total (total_if (nodes g)) es} (listed_takes (optional_takes expressions)) (λ es q. tt) (λ es. omega (arith, givens_nodes g (connections_by_place es), connected_nodes g es)))
+
+  one_instance_takes : Takes S one_rule (λ o. Unit {0}) (one_nodes g)
+  unfolding one_rule
+  one_instance_takes = made_takes {w = λ p. 0 + (1 + connections_nodes g p.1)} (both_take (any_takes shrinks) (after_takes (before_takes connections_take))) (λ p q. tt) (λ p. omega arith)
+
   instance_item_takes : Takes S instance_item_rule (ArePlacedItems P) (total (item_parts g))
   unfolding instance_item_rule
-  instance_item_takes = made_takes (any_takes shrinks) (λ p q. (tt, tt)) (λ p. omega arith)
+  instance_item_takes =
+      made_takes {w = λ p. 0 + (0 + total (one_nodes g) p.1.1)} (both_take (any_takes shrinks) (both_take (any_takes shrinks) (before_takes (listed_takes one_instance_takes)))) (λ p q. (tt, tt)) (λ p. omega (arith, instances_nodes g p.1.1))
 
   item_takes : Takes S item_rule (ArePlacedItems P) (total (item_parts g))
   unfolding item_rule

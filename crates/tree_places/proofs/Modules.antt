@@ -17,7 +17,8 @@ use Rattle.verilog_tree.specs.Tree.{Item, Module}
 use Rattle.parsed_modules.specs.Spelled.{AreModules}
 use Rattle.parsed_modules.proofs.Lists.{all_append, all_in}
 use Rattle.parsed_modules.proofs.TokensHold.{Spelling, leaves}
-use Rattle.tree_places.specs.Counted.{module_lines, module_nodes}
+use Rattle.tree_places.specs.Counted.{AreCountable, joined_nodes, module_joined, module_lines, module_nodes}
+use Rattle.tree_places.specs.Example.{nothing}
 use Rattle.tree_places.specs.Placed.{ArePlacedModules, IsPlaced, IsPlacedBody, IsTokenPlace}
 use Rattle.tree_places.proofs.Expressions.{IsAt, expr_takes, level_takes, target_takes}
 use Rattle.tree_places.proofs.Items.{IsPlacedItem, ArePlacedItems, item_parts, header_ports_take, items_take}
@@ -106,9 +107,10 @@ member_total w [] x h = absurd h
 member_total w (y ∷ ys) x (inl e) = subst (λ z. w z ≤ w y + total w ys) e (omega arith)
 member_total w (y ∷ ys) x (inr k) = omega (arith, member_total w ys x k)
 
-items_counted : (g : Scope) (xs : List Item) → sum_by (λ x. form_lines x.form) xs + sum_by (λ x. form_nodes g x.form) xs ≡ total (item_parts g) xs
+items_counted : (g : Scope) (xs : List Item) → sum_by (λ x. form_lines x.form) xs + sum_by (λ x. form_nodes g x.form) xs + sum_by (λ x. joined_nodes g x.form) xs ≡ total (item_parts g) xs
 items_counted g [] = refl
-items_counted g (x ∷ xs) = omega (arith, sum_by-cons (λ (y : Item). form_lines y.form) x xs, sum_by-cons (λ (y : Item). form_nodes g y.form) x xs, items_counted g xs)
+items_counted g (x ∷ xs) =
+    omega (arith, sum_by-cons (λ (y : Item). form_lines y.form) x xs, sum_by-cons (λ (y : Item). form_nodes g y.form) x xs, sum_by-cons (λ (y : Item). joined_nodes g y.form) x xs, items_counted g xs)
 
 -- each place
 abbrev Anywhere : Place → Type 0
@@ -118,9 +120,13 @@ all_anywhere : (tokens : List Lexeme) → AllOf (IsAt Anywhere) tokens
 all_anywhere [] = tt
 all_anywhere (t ∷ tokens) = (tt, all_anywhere tokens)
 
-pub counted_module : (tokens : List Lexeme) (ms : List Module) (m : Module) (g : Scope) → AreModules tokens ms → In m ms → module_lines m + module_nodes g m ≤ length tokens
+pub counted_module : (tokens : List Lexeme) (ms : List Module) (m : Module) (g : Scope) → AreModules tokens ms → In m ms → module_lines m + module_nodes g m + module_joined g m ≤ length tokens
 counted_module tokens ms m g s k =
     omega (arith, items_counted g m.items, member_total (λ (m : Module). total (item_parts g) m.items) ms m k, modules_parts Anywhere g tokens ms s)
+
+pub countable_modules : (tokens : List Lexeme) (ms : List Module) → AreModules tokens ms → length tokens ≤ 4194304 → AreCountable ms
+countable_modules tokens ms s few m k =
+    record { few_lines = omega (arith, few, counted_module tokens ms m nothing s k); few_nodes = λ g. omega (arith, few, counted_module tokens ms m g s k) }
 
 all_tokens : (P : Place → Type 0) (tokens : List Lexeme) → ((t : Lexeme) → In t tokens → P t.place) → AllOf (IsAt P) tokens
 all_tokens P [] h = tt

@@ -1,9 +1,11 @@
--- A test and the tokens of its text `if (a) y = b;`, of which only the places matter here.
-use Rattle.std.specs.Prelude.{ℕ, true, List, [], ◌∷◌, codes}
+-- A test and the tokens of its text `if (a) y = b;`, of which only the places matter here; and an instance with a connection.
+use Rattle.std.specs.Prelude.{ℕ, true, false, List, [], ◌∷◌, None, Some, codes}
 use Rattle.cov_host.specs.declared.place.Place.{Place}
 use Rattle.verilog_lexer.specs.Tokens.{Lexeme}
 use Rattle.verilog_lexer.specs.declared.token.TokenKind.TheVariants.{Operator}
-use Rattle.verilog_tree.specs.Tree.{Statement, assignment, identifier, if_statement, no_statements}
+use Rattle.verilog_tree.specs.Tree.{Expr, ItemForm, Statement, assignment, conditional, identifier, if_statement, instance_item, no_statements}
+use Rattle.flat_design.specs.Scope.{Scope}
+use Rattle.flat_design.specs.declared.entry.Entry.TheVariants.{Signal}
 
 -- this column of the first line
 abbrev pub at : ℕ → Place
@@ -24,3 +26,23 @@ whole = token_at 12 ∷ token_at 13 ∷ front
 -- the test with the assignment in it
 abbrev pub test : Statement
 test = if_statement (at 1) (identifier (at 5) (codes "a")) (assignment (at 8) (identifier (at 8) (codes "y")) true (identifier (at 12) (codes "b"))) no_statements
+
+abbrev pub named_b : Expr
+named_b = identifier (at 1) (codes "b")
+
+-- an instance, of which a port is joined to `b ? b : b`
+abbrev pub chosen : ItemForm
+chosen =
+    instance_item (record {
+      of_module = record { name = codes "m"; place = at 1 };
+      overrides = [];
+      ones = record { name = record { name = codes "u"; place = at 1 }; given = record { name = None; value = Some (conditional (at 1) named_b named_b named_b) } ∷ [] } ∷ [];
+    })
+
+-- a scope in which each name is that of a signal
+abbrev pub signals : Scope
+signals x = Some (Signal (record { number = 0; range = None; signed = false; net = true; input = false }))
+
+-- one in which no name means anything
+abbrev pub nothing : Scope
+nothing x = None

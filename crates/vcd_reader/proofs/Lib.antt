@@ -20,5 +20,6 @@ pub mod RisingTimes
 pub mod Turns
 pub mod Growing
 pub mod OneHeader
+pub mod FewCodes
 pub mod BehindFaults
 mod ElementLemmas

@@ -15,3 +15,8 @@ is_at_end _ = false
 abbrev pub longest_of : Progress → ℕ
 longest_of Going = 67108864
 longest_of _ = 67108865
+
+-- how many codes are counted: those of a header that goes on
+abbrev pub counted_codes : Progress → ℕ → ℕ
+counted_codes Going count = count
+counted_codes _ count = 0

@@ -1,4 +1,4 @@
-ghost use Rattle.std.specs.Prelude.{◌≡◌, ◌<◌, ◌++◌, ◌∷◌, [], ℕ, List, None, Some, IfOk, OnOk, length, option_map};
+ghost use Rattle.std.specs.Prelude.{◌≡◌, ◌<◌, ◌^◌, ◌++◌, ◌∷◌, [], ℕ, List, None, Some, IfOk, OnOk, length, option_map};
 ghost use Rattle.std.specs.Global.{Vec};
 ghost use Rattle.vcd_reader.specs.Codes.{code_of, with_code, entered, declared_code};
 ghost use Rattle.vcd_reader.specs.Header.{number_of, size_in};
@@ -75,35 +75,37 @@ impl Codes {
 
     /// Adds a variable's code, and gives its number. An `Err` changes nothing.
     pub(crate) fn add(&mut self, bytes: &[u8], size: u32, is_read: bool) -> Result<u32, NoMemory>
+        requires { length self.old < 2 ^ 32 }
         ensures added { OnOk result (self.new ≡ with_code self.old bytes.now size is_read) }
         ensures number { IfOk result (λ number. number ≡ number_of self.old bytes.now) }
     {
-        let code = self.with_variable(bytes, size, is_read)?;
+        let code = self.with_variable(bytes, size, is_read);
         self.enter(bytes, code)?;
         Ok(code.number)
     }
 
     /// The code of these bytes with one variable more.
-    fn with_variable(&self, bytes: &[u8], size: u32, is_read: bool) -> Result<Code, NoMemory>
-        ensures { IfOk result (λ code. code ≡ without_text (declared_code (length self.now) bytes.now size is_read (code_of self.now bytes.now))) }
+    fn with_variable(&self, bytes: &[u8], size: u32, is_read: bool) -> Code
+        requires { length self.now < 2 ^ 32 }
+        ensures { result ≡ without_text (declared_code (length self.now) bytes.now size is_read (code_of self.now bytes.now)) }
     {
-        let code = match self.find(bytes) {
+        match self.find(bytes) {
             Some(known) => Code {
                 number: known.number,
                 size: known.size,
                 is_read: known.is_read || is_read,
             },
             None => Code {
-                number: self.next_number()?,
+                number: self.next_number(),
                 size,
                 is_read,
             },
-        };
-        Ok(code)
+        }
     }
 
     /// Puts a code in the place of that of the same bytes, or at the end.
     fn enter(&mut self, bytes: &[u8], code: Code) -> Result<(), NoMemory>
+        requires { length self.old < 2 ^ 32 }
         ensures { OnOk result (self.new ≡ entered self.old (with_text bytes.now code)) }
     {
         match self.places.get(bytes) {
@@ -117,10 +119,11 @@ impl Codes {
 
     /// Adds a new code. There is room for it before its place is set, so that an `Err` changes nothing.
     fn append(&mut self, bytes: &[u8], code: Code) -> Result<(), NoMemory>
-        requires { place_of self.old bytes.now ≡ None }
+        requires absent { place_of self.old bytes.now ≡ None }
+        requires few { length self.old < 2 ^ 32 }
         ensures { OnOk result (self.new ≡ self.old ++ with_text bytes.now code ∷ []) }
     {
-        let place = self.next_number()?;
+        let place = self.next_number();
         let text = Vec::from_slice(self.alloc, bytes)?;
         self.texts.reserve(1)?;
         self.codes.reserve(1)?;
@@ -130,14 +133,12 @@ impl Codes {
         Ok(())
     }
 
-    /// The number of the next new code. There is no room for more than 2^32.
-    fn next_number(&self) -> Result<u32, NoMemory>
-        ensures { IfOk result (λ number. number ≡ length self.now) }
+    /// The number of the next new code.
+    fn next_number(&self) -> u32
+        requires { length self.now < 2 ^ 32 }
+        ensures { result ≡ length self.now }
     {
-        match u32::try_from(self.codes.len()) {
-            Ok(number) => Ok(number),
-            Err(_) => Err(NoMemory),
-        }
+        self.codes.len() as u32
     }
 }
 

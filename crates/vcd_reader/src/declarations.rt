@@ -1,4 +1,4 @@
-ghost use Rattle.std.specs.Prelude.{◌≡◌, ◌≤◌, ◌==◌, [], not, map, length, IfOk, OnOk};
+ghost use Rattle.std.specs.Prelude.{◌≡◌, ◌<◌, ◌≤◌, ◌^◌, ◌==◌, [], not, map, length, IfOk, OnOk};
 ghost use Rattle.std.specs.List.{join_with_byte, prefix_len};
 ghost use Rattle.vcd_reader.specs.Codes.{is_unread_kind};
 ghost use Rattle.vcd_reader.specs.Header.{name_of, with_section, with_fields, with_variable, with_scope, without_scope};
@@ -46,6 +46,7 @@ impl Declarations {
 
     /// Adds what a whole section declares.
     pub(crate) fn add(&mut self, keyword: Keyword, fields: &[Name]) -> Result<(), NoMemory>
+        requires { length self.old.codes < 2 ^ 32 }
         ensures { OnOk result (declared_of self.new ≡ with_section (declared_of self.old) keyword fields.now) }
     {
         match keyword {
@@ -80,6 +81,7 @@ impl Declarations {
 
     /// Adds the variable of four fields.
     fn add_variable(&mut self, fields: &[Name]) -> Result<(), NoMemory>
+        requires { length self.old.codes < 2 ^ 32 }
         ensures { OnOk result (declared_of self.new ≡ with_fields (declared_of self.old) fields.now) }
     {
         match fields {
@@ -101,6 +103,7 @@ impl Declarations {
         code: &[u8],
         reference: &[u8],
     ) -> Result<(), NoMemory>
+        requires { length self.old.codes < 2 ^ 32 }
         ensures { OnOk result (declared_of self.new ≡ with_variable (declared_of self.old) kind.now size code.now reference.now) }
     {
         let Some(size) = size else {

@@ -35,13 +35,33 @@ pub enum DumpKind {
 }
 
 impl DumpKind {
-    ghost use Rattle.vcd_reader.specs.Kinds.{kind_number};
+    ghost use Rattle.vcd_reader.specs.Kinds.{kind_number, kind_text};
 
     /// The number of the kind in messages.
     pub fn number(self) -> u8
         ensures { result ≡ kind_number self }
     {
         self as u8
+    }
+
+    /// The number and the name, as messages have them.
+    pub fn text(self) -> &'static str
+        ensures { result.now ≡ kind_text self }
+    {
+        match self {
+            DumpKind::BadHeader => "1 BadHeader",
+            DumpKind::BadChange => "2 BadChange",
+            DumpKind::UnknownCode => "3 UnknownCode",
+            DumpKind::VectorTooLong => "4 VectorTooLong",
+            DumpKind::TimeBack => "5 TimeBack",
+            DumpKind::Truncated => "6 Truncated",
+            DumpKind::LongCode => "7 LongCode",
+            DumpKind::Gap => "8 Gap",
+            DumpKind::DeepScope => "9 DeepScope",
+            DumpKind::DumpTooLong => "10 DumpTooLong",
+            DumpKind::TimeTooLarge => "11 TimeTooLarge",
+            DumpKind::HeaderTooLong => "12 HeaderTooLong",
+        }
     }
 }
 

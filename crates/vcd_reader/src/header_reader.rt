@@ -1,10 +1,10 @@
-ghost use Rattle.std.specs.Prelude.{◌≡◌, ◌<◌, ◌≤◌, ◌++◌, ◌∷◌, [], ℕ, true, false, List, Ok, nat_le, not, ◌&&◌, if◌then◌else◌, length, take, IfOk, IfErr, OnOk};
+ghost use Rattle.std.specs.Prelude.{◌≡◌, ◌<◌, ◌≤◌, ◌^◌, ◌++◌, ◌∷◌, [], ℕ, true, false, List, Ok, nat_le, not, ◌&&◌, if◌then◌else◌, length, take, IfOk, IfErr, OnOk};
 ghost use Rattle.vcd_reader.specs.Answer.{IsFault};
 ghost use Rattle.vcd_reader.specs.declared.fault.DumpFault.TheVariants as dump_fault;
 ghost use Rattle.vcd_reader.specs.Words.{is_white_space as is_space};
 ghost use Rattle.vcd_reader.specs.Reading.{last_word};
 ghost use Rattle.vcd_reader.specs.Views.{reading_of};
-ghost use Rattle.vcd_reader.specs.Progress.{is_at_end, is_going, longest_of};
+ghost use Rattle.vcd_reader.specs.Progress.{counted_codes, is_at_end, is_going, longest_of};
 
 use crate::letters::is_white_space;
 use crate::progress::Progress;
@@ -26,6 +26,7 @@ pub(crate) struct HeaderReader {
     pub(crate) progress: Progress,
     ghost long: { length word.items ≤ at },
     ghost within: { at ≤ longest_of progress },
+    ghost few: { counted_codes progress (length sections.declared.codes) ≤ at },
 }
 
 impl HeaderReader {
@@ -35,8 +36,9 @@ impl HeaderReader {
     pub(crate) fn new(alloc: Global) -> Self
         ensures { HeaderStands result [] }
     {
+        let sections = Sections::new(alloc);
         HeaderReader {
-            sections: Sections::new(alloc),
+            sections,
             word: Vec::new(alloc),
             at: 0,
             progress: Progress::Going,
@@ -96,6 +98,8 @@ impl HeaderReader {
         ensures ok { OnOk result ((text : List ℕ) (space : ℕ) → is_space space ≡ true → HeaderStands self.old text → HeaderStands self.new (text ++ space ∷ [])) }
         ensures fault { IfErr result (λ fault. (text : List ℕ) (space : ℕ) → is_space space ≡ true → HeaderStands self.old text → IsFoundFault (text ++ space ∷ []) fault) }
     {
+        // The header goes on only where the word is found to be no fault.
+        self.progress = Progress::Done;
         let is_last = read_last(&mut self.sections, self.word.as_slice(), self.at)?;
         check_room(is_last, self.at)?;
         self.word.clear();
@@ -125,11 +129,11 @@ impl HeaderReader {
         ensures ok { OnOk result ((text : List ℕ) → HeaderStands self.old text → HeaderStands self.new text) }
         ensures fault { IfErr result (λ fault. (text : List ℕ) → HeaderStands self.old text → IsFaultAtEnd text fault) }
     {
+        self.progress = Progress::AtEnd;
         let is_last = read_last(&mut self.sections, self.word.as_slice(), self.at)?;
         if !is_last {
             return Err(DumpFault::at(DumpKind::Truncated, self.at));
         }
-        self.progress = Progress::AtEnd;
         Ok(())
     }
 }
@@ -147,7 +151,8 @@ fn progress(is_last: bool) -> Progress
 
 /// Reads the word that ends here, if there is one, and says whether it is the last of the header.
 fn read_last(sections: &mut Sections, word: &[u8], end: u64) -> Result<bool, DumpFault>
-    requires { length word.now ≤ end }
+    requires long { length word.now ≤ end }
+    requires few { length sections.old.declared.codes < 2 ^ 32 }
     ensures ok { IfOk result (λ last. last_word (reading_of sections.old) end word.now ≡ Ok (last, reading_of sections.new)) }
     ensures fault { IfErr result (IsFault (last_word (reading_of sections.old) end word.now)) }
 {

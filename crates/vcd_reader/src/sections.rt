@@ -1,4 +1,4 @@
-ghost use Rattle.std.specs.Prelude.{◌≡◌, Ok, IfOk, IfErr, OnOk, None, false};
+ghost use Rattle.std.specs.Prelude.{◌≡◌, ◌<◌, ◌^◌, Ok, IfOk, IfErr, OnOk, None, false, length};
 ghost use Rattle.vcd_reader.specs.Answer.{IsFault};
 ghost use Rattle.vcd_reader.specs.Reading.{header_word, word_in, section_word, with_field, start_reading};
 ghost use Rattle.vcd_reader.specs.Views.{reading_of, section_of, declared_of};
@@ -40,6 +40,7 @@ impl Sections {
 
     /// Reads the next word, which begins at this byte, and says whether it is the last of the header.
     pub(crate) fn read(&mut self, word: &[u8], at: u64) -> Result<bool, DumpFault>
+        requires { length self.old.declared.codes < 2 ^ 32 }
         ensures ok { IfOk result (λ last. header_word (reading_of self.old) (record { at = at; bytes = word.now }) ≡ Ok (last, reading_of self.new)) }
         ensures fault { IfErr result (IsFault (header_word (reading_of self.old) (record { at = at; bytes = word.now }))) }
     {
@@ -67,7 +68,8 @@ impl Sections {
 
     /// Reads the next word of a section.
     fn read_within(&mut self, section: Section, word: &[u8], at: u64) -> Result<bool, DumpFault>
-        requires { self.old.section ≡ None }
+        requires none { self.old.section ≡ None }
+        requires few { length self.old.declared.codes < 2 ^ 32 }
         ensures ok { IfOk result (λ last. section_word (declared_of self.old.declared) (section_of section) (record { at = at; bytes = word.now }) ≡ Ok (last, reading_of self.new)) }
         ensures fault { IfErr result (IsFault (section_word (declared_of self.old.declared) (section_of section) (record { at = at; bytes = word.now }))) }
     {

@@ -13,7 +13,7 @@ use Rattle.verilog_lexer.specs.Answer.{◌>>=◌, fault_at}
 use Rattle.verilog_lexer.specs.Conditions.{named, after_test}
 use Rattle.verilog_lexer.specs.Defines.{Macros, DefineText, no_macros, with_macro, without_macro, with_macros}
 use Rattle.verilog_lexer.specs.Piece.{Piece, blank, token, define, undefine, condition, inclusion, expansion, fault, piece_length}
-use Rattle.verilog_lexer.specs.Reading.{Reading, Step, Entry, macro_text, file, Inner, goes, expanded, meaning, front_piece, entered, ended, scan, scan_passage, opened_file, included, inner_at, read_passage, root_passage, read_source, read_roots, beginning, tokens_of}
+use Rattle.verilog_lexer.specs.Reading.{Reading, Step, Entry, macro_text, file, Inner, goes, expanded, meaning, front_piece, entered, ended, scan, scan_passage, Opened, macro_opened, file_opened, opened_file, included, with_less_room, put_in, inner_at, read_passage, root_passage, read_source, read_roots, beginning, tokens_of}
 use Rattle.verilog_lexer.specs.Sources.{SourceText, include_place}
 use Rattle.verilog_lexer.specs.Spot.{after, within_macro, file_spot}
 use Rattle.verilog_lexer.specs.TokenTexts.{IsPartOf, IsTextOf, of_source, of_define, IsSound, AreSound}
@@ -25,7 +25,7 @@ use Rattle.verilog_lexer.specs.declared.token.TokenKind.{TokenKind}
 use Rattle.verilog_lexer.specs.declared.token.TokenKind.TheVariants.{Identifier, Keyword, System, Decimal, Based, Quoted, Operator}
 use Rattle.verilog_lexer.proofs.Fronts.{IsFrontOf, HasForm, piece_front}
 use Rattle.verilog_lexer.proofs.Parts.{IsPartOf-whole, IsPartOf-trans}
-use Rattle.verilog_lexer.proofs.ReadTokens.{no_answer, same_answer, bind_ok, with_token_is}
+use Rattle.verilog_lexer.proofs.ReadTokens.{no_answer, same_answer, bind_ok, room_ok, with_token_is}
 use Rattle.verilog_lexer.proofs.ReadFiles.{slice_get-behind}
 
 -- a part of a text is one of what the text is of
@@ -184,18 +184,23 @@ module _ (sources : List SourceText) (defines : List DefineText) where
 
   file_kept : (inner : Inner) (spot : Spot) (name : List ℕ) (found : Option ℕ) (old new : Reading) → IsKept old
       → ((text : List ℕ) (spot : Spot) (ending : Option (List Condition)) (reading : Reading) → IsTextOf sources defines text → IsKept reading → scan inner ending 0 spot text reading ≡ Ok new → IsKept new)
-      → (included sources spot name found old >>= λ inside. scan_passage inner inside.passage inside.reading) ≡ Ok new → IsKept new
+      → (included sources spot name found old >>= put_in spot >>= λ inside. scan_passage inner inside.passage inside.reading) ≡ Ok new → IsKept new
   file_kept inner spot name None old new kept scanned is = absurd (no_answer _ new is)
   file_kept inner spot name (Some number) old new kept scanned is = by_source (slice_get sources number) refl is where
-    by_source : (source : Option SourceText) → slice_get sources number ≡ source → (opened_file spot name number source old >>= λ inside. scan_passage inner inside.passage inside.reading) ≡ Ok new → IsKept new
+    by_source : (source : Option SourceText) → slice_get sources number ≡ source → (opened_file spot name number source old >>= put_in spot >>= λ inside. scan_passage inner inside.passage inside.reading) ≡ Ok new → IsKept new
     by_source None found is = absurd (no_answer _ new is)
     by_source (Some source) found is =
-        scanned source.bytes (file_spot spot (number + 1)) (Some old.conditions) (record old { conditions = [] }) (of_source number source found (IsPartOf-whole source.bytes)) (record { texts = kept.texts; macros = kept.macros; sound = kept.sound }) is
+        let put : Opened = file_opened spot number source old in
+        scanned source.bytes (file_spot spot (number + 1)) (Some old.conditions) (with_less_room put).reading (of_source number source found (IsPartOf-whole source.bytes)) (record { texts = kept.texts; macros = kept.macros; sound = kept.sound })
+        (room_ok spot put (λ inside. scan_passage inner inside.passage inside.reading) new is)
 
   inner_kept : (depth : ℕ) (spot : Spot) (entry : Entry) (old new : Reading) → EntryIsKept (Some entry) → IsKept old → inner_at depth sources spot entry old ≡ Ok new → IsKept new
   unfolding inner_at
   inner_kept zero spot entry old new from kept is = absurd (no_answer _ new is)
-  inner_kept (suc depth) spot (macro_text body) old new from kept is = scan_kept (inner_at depth sources) (inner_kept depth) body (within_macro spot) None 0 old new from kept is
+  inner_kept (suc depth) spot (macro_text body) old new from kept is =
+      let put : Opened = macro_opened spot body old in
+      scan_kept (inner_at depth sources) (inner_kept depth) body (within_macro spot) None 0 (with_less_room put).reading new from (record { texts = kept.texts; macros = kept.macros; sound = kept.sound })
+      (room_ok spot put (λ inside. scan_passage (inner_at depth sources) inside.passage inside.reading) new is)
   inner_kept (suc depth) spot (file name) old new from kept is =
       file_kept (inner_at depth sources) spot name (include_place sources name) old new kept (λ text spot ending reading from kept scanned. scan_kept (inner_at depth sources) (inner_kept depth) text spot ending 0 reading new from kept scanned) is
 

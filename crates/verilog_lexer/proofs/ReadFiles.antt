@@ -7,7 +7,7 @@ use Rattle.cov_host.specs.declared.place.Place.{Place}
 use Rattle.verilog_lexer.specs.Answer.{◌>>=◌}
 use Rattle.verilog_lexer.specs.Defines.{DefineText}
 use Rattle.verilog_lexer.specs.Piece.{Piece, blank, token, define, undefine, condition, inclusion, expansion, fault, piece_length}
-use Rattle.verilog_lexer.specs.Reading.{Reading, Step, Entry, macro_text, file, Inner, meaning, front_piece, entered, scan, scan_passage, opened_file, included, inner_at, read_passage, root_passage, read_source, read_roots, beginning, tokens_of}
+use Rattle.verilog_lexer.specs.Reading.{Reading, Step, Entry, macro_text, file, Inner, meaning, front_piece, entered, scan, scan_passage, Opened, macro_opened, file_opened, opened_file, included, with_less_room, put_in, inner_at, read_passage, root_passage, read_source, read_roots, beginning, tokens_of}
 use Rattle.verilog_lexer.specs.Sources.{SourceText, include_place}
 use Rattle.verilog_lexer.specs.Spot.{next_place}
 use Rattle.verilog_lexer.specs.TokenPlaces.{file_start, place_behind, StandsAt, IsMacroName, AreRead, AreReadInTurn}
@@ -17,7 +17,7 @@ use Rattle.verilog_lexer.specs.declared.condition.Condition.{Condition}
 use Rattle.verilog_lexer.specs.declared.spot.Spot.{Spot}
 use Rattle.verilog_lexer.specs.declared.token.TokenKind.{TokenKind}
 use Rattle.verilog_lexer.proofs.Fronts.{Begins, IsFrontOf, piece_front}
-use Rattle.verilog_lexer.proofs.ReadTokens.{no_answer, same_answer, bind_ok, Adds, adds_none, adds_both, adds_from, ended_same, Means, meaning_is, entered_none, entered_some, AreAt, scan_inside, inner_stays}
+use Rattle.verilog_lexer.proofs.ReadTokens.{no_answer, same_answer, bind_ok, room_ok, Adds, adds_none, adds_both, adds_from, ended_same, Means, meaning_is, entered_none, entered_some, AreAt, scan_inside, inner_stays}
 
 -- the text is what is left of a source from the place on
 record IsAt (sources : List SourceText) (place : Place) (text : List ℕ) : Type 0 where
@@ -122,20 +122,26 @@ at_start sources number source numbered = record { number = number; source = sou
 
 file_included : (inner : Inner) (sources : List SourceText) (place : Place) (name : List ℕ) (found : Option ℕ) (old new : Reading)
     → ((number : ℕ) (source : SourceText) (ending : Option (List Condition)) (reading : Reading) → slice_get sources number ≡ Some source → scan inner ending 0 (record { place = file_start (number + 1); inside = false }) source.bytes reading ≡ Ok new → Adds reading new (AreRead sources (file_start (number + 1))))
-    → (included sources (record { place = place; inside = false }) name found old >>= λ inside. scan_passage inner inside.passage inside.reading) ≡ Ok new → Adds old new (λ tokens. (number : ℕ) × AreRead sources (file_start number) tokens)
+    → (included sources (record { place = place; inside = false }) name found old >>= put_in (record { place = place; inside = false }) >>= λ inside. scan_passage inner inside.passage inside.reading) ≡ Ok new
+    → Adds old new (λ tokens. (number : ℕ) × AreRead sources (file_start number) tokens)
 file_included inner sources place name None old new scanned is = absurd (no_answer _ new is)
 file_included inner sources place name (Some number) old new scanned is = by_source (slice_get sources number) refl is where
-  by_source : (source : Option SourceText) → slice_get sources number ≡ source → (opened_file (record { place = place; inside = false }) name number source old >>= λ inside. scan_passage inner inside.passage inside.reading) ≡ Ok new
+  by_source : (source : Option SourceText) → slice_get sources number ≡ source
+      → (opened_file (record { place = place; inside = false }) name number source old >>= put_in (record { place = place; inside = false }) >>= λ inside. scan_passage inner inside.passage inside.reading) ≡ Ok new
       → Adds old new (λ tokens. (number : ℕ) × AreRead sources (file_start number) tokens)
   by_source None found is = absurd (no_answer _ new is)
   by_source (Some source) found is =
-      let adds = scanned number source (Some old.conditions) (record old { conditions = [] }) found is in
+      let put : Opened = file_opened (record { place = place; inside = false }) number source old in
+      let adds = scanned number source (Some old.conditions) (with_less_room put).reading found (room_ok (record { place = place; inside = false }) put (λ inside. scan_passage inner inside.passage inside.reading) new is) in
       (adds.0, adds.1, (number + 1, adds.2))
 
 inner_reads : (depth : ℕ) (sources : List SourceText) (place : Place) (entry : Entry) (old new : Reading) → inner_at depth sources (record { place = place; inside = false }) entry old ≡ Ok new → Adds old new (EnteredAs sources place entry)
 unfolding inner_at
 inner_reads zero sources place entry old new is = absurd (no_answer _ new is)
-inner_reads (suc depth) sources place (macro_text body) old new is = scan_inside (inner_at depth sources) (inner_stays depth sources) body place None 0 old new is
+inner_reads (suc depth) sources place (macro_text body) old new is =
+    let put : Opened = macro_opened (record { place = place; inside = false }) body old in
+    scan_inside (inner_at depth sources) (inner_stays depth sources) body place None 0 (with_less_room put).reading new
+    (room_ok (record { place = place; inside = false }) put (λ inside. scan_passage (inner_at depth sources) inside.passage inside.reading) new is)
 inner_reads (suc depth) sources place (file name) old new is =
     file_included (inner_at depth sources) sources place name (include_place sources name) old new
     (λ number source ending reading numbered scanned. scan_file sources (inner_at depth sources) (inner_reads depth sources) source.bytes (file_start (number + 1)) ending 0 reading new (at_start sources number source numbered) scanned)

@@ -1,18 +1,21 @@
 -- One turn of the reading leaves what is said the same.
-use Rattle.std.proofs.Common.{◌≡◌, ◌<◌, ◌≤◌, ◌+◌, ◌-◌, ℕ, zero, suc, false, List, [], ◌∷◌, ◌++◌, Option, None, Some, Ok, Err, length, take, drop, refl, sym, ap, ◌∙◌, arith, length-append}
-use Rattle.std.specs.Prelude.{is_none}
+use Rattle.std.proofs.Common.{◌≡◌, ◌<◌, ◌≤◌, ◌+◌, ◌-◌, ℕ, zero, suc, Bool, true, false, cond, List, [], ◌∷◌, ◌++◌, Option, None, Some, Ok, Err, length, take, drop, refl, sym, ap, subst, ⊎_elim, ◌∙◌, arith, length-append}
+use Rattle.std.proofs.lemmas.Bool.{cases_lt, false≢true, lt-ltb}
+use Rattle.std.specs.List.{slice_get}
+use Rattle.std.specs.Prelude.{is_none, nat_lt}
 use Rattle.verilog_lexer.specs.Answer.{Answer, ◌>>=◌, IsFault, fault_at}
-use Rattle.verilog_lexer.specs.Sources.{SourceText}
+use Rattle.verilog_lexer.specs.Sources.{SourceText, include_place}
 use Rattle.verilog_lexer.specs.Spot.{after, after_all}
 use Rattle.verilog_lexer.specs.Piece.{piece_length}
-use Rattle.verilog_lexer.specs.Reading.{Reading, Entry, PassageText, Inner, meaning, front_piece, entered, ended, scan, scan_passage, opened, inner_at, read_passage, root_passage}
-use Rattle.verilog_lexer.specs.Stand.{Stand, resumed, outward, outcome, advanced, Enters, Proceeds}
-use Rattle.verilog_lexer.proofs.Works.{work-advanced, work-entered, work-ended}
+use Rattle.verilog_lexer.specs.Reading.{Reading, Entry, macro_text, file, PassageText, Inner, meaning, front_piece, entered, ended, scan, scan_passage, Opened, macro_opened, file_opened, opened_file, included, looked_up, bytes_taken, with_less_room, put_in, opened, inner_at, read_passage, root_passage}
+use Rattle.verilog_lexer.specs.Stand.{Stand, resumed, outward, outcome, advanced, work, Enters, Proceeds}
+use Rattle.verilog_lexer.proofs.ReadTokens.{no_answer, same_answer, bind_ok, meaning_room, ended_room}
+use Rattle.verilog_lexer.proofs.Works.{work-advanced, work-entered, work-ended, work-last, turns_alone}
 use Rattle.verilog_lexer.specs.declared.spot.Spot.{Spot}
 use Rattle.verilog_lexer.specs.declared.condition.Condition.{Condition}
 use Rattle.verilog_lexer.specs.declared.fault.LexFault.{LexFault}
 use Rattle.verilog_lexer.specs.declared.fault.LexFault.TheVariants as lex_fault
-use Rattle.verilog_lexer.specs.declared.fault.LexKind.TheVariants.{MacroDepth}
+use Rattle.verilog_lexer.specs.declared.fault.LexKind.TheVariants.{MacroDepth, ExpansionTooLong}
 
 -- a fault of one answer is the fault of another one, where it is handed on
 pub fault_through : {A B : Type 0} (given : Answer A) (other : Answer B) → ((fault : LexFault) → given ≡ Err fault → other ≡ Err fault) → (fault : LexFault) → IsFault given fault → IsFault other fault
@@ -129,6 +132,40 @@ module _ (sources : List SourceText) (passage : PassageText) (reading : Reading)
   unfolding outcome
   end_faults waiting = fault_through _ _ (λ fault faults. ap (outward 64 sources waiting) (scan-end (inner_at (64 - length waiting) sources) passage.ending passage.spot passage.text reading empty ∙ faults) ∙ outward-fault 64 sources waiting fault)
 
+taken_back : (room bytes : ℕ) → nat_lt room bytes ≡ false → room - bytes + bytes ≡ room
+taken_back room bytes is =
+    let enough : bytes ≤ room = ⊎_elim (λ short. absurd (false≢true (sym is ∙ lt-ltb room bytes short))) (λ enough. enough) (cases_lt room bytes) in
+    omega arith
+
+put_in_room : (spot : Spot) (inside put : Opened) → put_in spot inside ≡ Ok put → put.reading.room + bytes_taken put ≡ inside.reading.room
+put_in_room spot inside put is = by_room (nat_lt inside.reading.room (bytes_taken inside)) refl is where
+  by_room : (full : Bool) → nat_lt inside.reading.room (bytes_taken inside) ≡ full → cond full (fault_at ExpansionTooLong spot.place) (Ok (with_less_room inside)) ≡ Ok put
+      → put.reading.room + bytes_taken put ≡ inside.reading.room
+  by_room true full is = absurd (no_answer _ put is)
+  by_room false full is =
+      subst (λ (p : Opened). p.reading.room + bytes_taken p ≡ inside.reading.room) (same_answer (with_less_room inside) put is) (taken_back inside.reading.room (bytes_taken inside) full)
+
+kept_room : (old : Reading) (made inside : Opened) → made.reading.room ≡ old.room → ◌≡◌ {A = Answer Opened} (Ok made) (Ok inside) → inside.reading.room ≡ old.room
+kept_room old made inside room is = sym (ap (λ (o : Opened). o.reading.room) (same_answer made inside is)) ∙ room
+
+file_room : (spot : Spot) (name : List ℕ) (place : ℕ) (source : Option SourceText) (old : Reading) (inside : Opened) → opened_file spot name place source old ≡ Ok inside → inside.reading.room ≡ old.room
+file_room spot name place None old inside is = absurd (no_answer _ inside is)
+file_room spot name place (Some source) old inside is = kept_room old (file_opened spot place source old) inside refl is
+
+included_room : (sources : List SourceText) (spot : Spot) (name : List ℕ) (place : Option ℕ) (old : Reading) (inside : Opened) → included sources spot name place old ≡ Ok inside → inside.reading.room ≡ old.room
+included_room sources spot name None old inside is = absurd (no_answer _ inside is)
+included_room sources spot name (Some place) old inside is = file_room spot name place (slice_get sources place) old inside is
+
+looked_up_room : (sources : List SourceText) (spot : Spot) (entry : Entry) (old : Reading) (inside : Opened) → looked_up sources spot entry old ≡ Ok inside → inside.reading.room ≡ old.room
+looked_up_room sources spot (macro_text text) old inside is = kept_room old (macro_opened spot text old) inside refl is
+looked_up_room sources spot (file name) old inside is = included_room sources spot name (include_place sources name) old inside is
+
+-- what is put in takes its bytes and 8 more of the room
+opened_room : (sources : List SourceText) (spot : Spot) (entry : Entry) (old : Reading) (inside : Opened) → opened sources spot entry old ≡ Ok inside → inside.reading.room + bytes_taken inside ≡ old.room
+opened_room sources spot entry old inside is =
+    let bound = bind_ok (looked_up sources spot entry old) (put_in spot) inside is in
+    put_in_room spot bound.0 inside bound.2 ∙ looked_up_room sources spot entry old bound.0 bound.1
+
 -- over a stand as a whole
 module _ (sources : List SourceText) (stand : Stand) (bytes : ℕ) (some : 0 < length stand.passage.text) (is : bytes ≡ piece_length (front_piece (is_none stand.passage.ending) stand.reading.conditions stand.passage.text) - 1 + 1) where
   passed : bytes ≡ suc (piece_length (front_piece (is_none stand.passage.ending) stand.reading.conditions stand.passage.text) - 1)
@@ -141,7 +178,7 @@ module _ (sources : List SourceText) (stand : Stand) (bytes : ℕ) (some : 0 < l
       Proceeds sources stand (record { waiting = stand.waiting; passage = passage; reading = next })
   read_goes_on next passage means advances = record {
     same = rw advances (goes_on_same sources stand.waiting stand.passage stand.reading bytes some passed next means);
-    less = rw advances (work-advanced stand next bytes some (omega (arith, is)));
+    less = rw advances (work-advanced stand next bytes some (omega (arith, is)) (meaning_room stand.passage.spot stand.passage.text (front_piece (is_none stand.passage.ending) stand.reading.conditions stand.passage.text) stand.reading (record { reading = next; entry = None }) means));
   }
 
   module _ (next : Reading) (entry : Entry) (passage : PassageText) (means : meaning stand.passage.spot stand.passage.text (front_piece (is_none stand.passage.ending) stand.reading.conditions stand.passage.text) stand.reading ≡ Ok (record { reading = next; entry = Some entry })) (advances : passage ≡ advanced bytes stand.passage) where
@@ -151,9 +188,11 @@ module _ (sources : List SourceText) (stand : Stand) (bytes : ℕ) (some : 0 < l
     pub read_enters : (new : Stand) → Enters sources stand.passage.spot entry (record { waiting = stand.waiting; passage = passage; reading = next }) new → Proceeds sources stand new
     read_enters new enters =
         let waits : new.waiting ≡ stand.waiting ++ advanced bytes stand.passage ∷ [] = enters.waiting ∙ ap (λ p. stand.waiting ++ p ∷ []) advances in
+        let same_room : next.room ≡ stand.reading.room = meaning_room stand.passage.spot stand.passage.text (front_piece (is_none stand.passage.ending) stand.reading.conditions stand.passage.text) stand.reading (record { reading = next; entry = Some entry }) means in
+        let room : new.reading.room + (length new.passage.text + 8) ≡ stand.reading.room = opened_room sources stand.passage.spot entry next (record { passage = new.passage; reading = new.reading }) enters.opened ∙ same_room in
         record {
           same = enters_same sources stand.waiting stand.passage stand.reading bytes some passed next entry means new.passage new.reading enters.room enters.opened ∙ ap (λ w. outcome sources (record { waiting = w; passage = new.passage; reading = new.reading })) (sym waits);
-          less = work-entered stand new bytes some (omega (arith, is)) enters.room waits enters.bounded;
+          less = work-entered stand new bytes some (omega (arith, is)) waits room;
         }
 
 module _ (sources : List SourceText) (stand : Stand) (next : Reading) (empty : stand.passage.text ≡ []) where
@@ -161,11 +200,14 @@ module _ (sources : List SourceText) (stand : Stand) (next : Reading) (empty : s
       Proceeds sources stand (record { waiting = waiting; passage = outer; reading = next })
   text_ends waiting outer waits ends = record {
     same = ap (λ w. outcome sources (record { waiting = w; passage = stand.passage; reading = stand.reading })) waits ∙ end_same sources stand.passage stand.reading empty waiting outer next ends;
-    less = work-ended stand waiting outer next waits;
+    less = work-ended stand waiting outer next waits (ended_room stand.passage.ending stand.passage.spot stand.reading next ends);
   }
 
   pub all_ends : stand.waiting ≡ [] → ended stand.passage.ending stand.passage.spot stand.reading ≡ Ok next → outcome sources stand ≡ Ok next
   all_ends none ends = end_last sources stand.passage stand.reading empty stand.waiting next none ends
+
+  pub last_room : ended stand.passage.ending stand.passage.spot stand.reading ≡ Ok next → next.room < work stand
+  last_room ends = work-last stand next (ended_room stand.passage.ending stand.passage.spot stand.reading next ends)
 
 -- nothing more is entered where 64 texts wait
 pub full_faults : (sources : List SourceText) (waiting : ℕ) (spot : Spot) (entry : Entry) (reading : Reading) → waiting ≡ 64 → IsFault (inner_at (64 - waiting) sources spot entry reading) (lex_fault.At MacroDepth (Some spot.place) None)
@@ -197,3 +239,10 @@ pub root_outcome : (sources : List SourceText) (waiting : List PassageText) (num
 root_outcome sources waiting number text reading conditions none empty =
     ap (λ round. outcome sources (record { waiting = waiting; passage = record { text = text; spot = record { place = record { source = number; line = 1; column = 1 }; inside = false }; ending = Some round }; reading = reading })) empty
     ∙ outcome-alone sources (record { waiting = waiting; passage = root_passage number text; reading = reading }) none
+
+-- the turns of that file
+pub root_turns : (waiting : List PassageText) (number : ℕ) (text : List ℕ) (reading : Reading) (conditions : List Condition) (spent before : ℕ) → waiting ≡ []
+    → spent ≤ before + work (record { waiting = waiting; passage = record { text = text; spot = record { place = record { source = number; line = 1; column = 1 }; inside = false }; ending = Some conditions }; reading = reading })
+    → spent ≤ before + (length text + 1 + reading.room)
+root_turns waiting number text reading conditions spent before none bound =
+    turns_alone (record { waiting = waiting; passage = record { text = text; spot = record { place = record { source = number; line = 1; column = 1 }; inside = false }; ending = Some conditions }; reading = reading }) spent before none bound

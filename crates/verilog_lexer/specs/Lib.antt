@@ -20,3 +20,4 @@ pub mod TokenTexts
 pub mod Reading
 pub mod ReadingView
 pub mod Stand
+pub mod FaultText

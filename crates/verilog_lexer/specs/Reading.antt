@@ -1,6 +1,6 @@
 -- What sources say: their tokens under definitions, or the fault that is first (IEEE 1364-2001 clause 19).
 -- Bytes are written as numbers: 10 line feed, 92 backslash.
-use Rattle.std.specs.Prelude.{ℕ, zero, suc, ◌+◌, ◌-◌, Bool, false, ◌==◌, List, [], ◌∷◌, Option, None, Some, Ok, Err, if◌then◌else◌, length, slice_get, slice_index, is_none, ◌&&◌, take}
+use Rattle.std.specs.Prelude.{ℕ, zero, suc, ◌+◌, ◌-◌, nat_lt, Bool, false, ◌==◌, List, [], ◌∷◌, Option, None, Some, Ok, Err, if◌then◌else◌, length, slice_get, slice_index, is_none, ◌&&◌, take}
 use Rattle.cov_host.specs.declared.place.Place.{Place}
 use Rattle.verilog_lexer.specs.Answer.{Answer, ◌>>=◌, fault_at}
 use Rattle.verilog_lexer.specs.Spot.{after, after_all, within_macro, file_spot}
@@ -12,13 +12,14 @@ use Rattle.verilog_lexer.specs.Sources.{SourceText, include_place}
 use Rattle.verilog_lexer.specs.declared.spot.Spot.{Spot}
 use Rattle.verilog_lexer.specs.declared.condition.Condition.{Condition}
 use Rattle.verilog_lexer.specs.declared.fault.LexFault.TheVariants as lex_fault
-use Rattle.verilog_lexer.specs.declared.fault.LexKind.TheVariants.{OpenCondition, UnknownMacro, MacroDepth, IncludeMissing}
+use Rattle.verilog_lexer.specs.declared.fault.LexKind.TheVariants.{OpenCondition, UnknownMacro, MacroDepth, IncludeMissing, ExpansionTooLong}
 
--- what has been read so far: the tokens, the macros, and the open conditions of the file
+-- what has been read so far: the tokens, the macros, the open conditions of the file, and how many bytes may still be put in
 pub record Reading : Type 0 where
   pub tokens : List Lexeme
   pub macros : Macros
   pub conditions : List Condition
+  pub room : ℕ
 
 -- what is to be read in the place of a directive or a macro
 pub data Entry : Type 0 where
@@ -95,23 +96,42 @@ pub record Opened : Type 0 where
   pub passage : PassageText
   pub reading : Reading
 
-abbrev pub opened_file : Spot → (name : List ℕ) → (place : ℕ) → Option SourceText → Reading → Answer Opened
-opened_file spot name place None reading = Err (lex_fault.At IncludeMissing (Some spot.place) (Some name))
-opened_file spot name place (Some source) reading = Ok (record {
+-- the text of a macro, or a file at this place among the sources
+abbrev pub macro_opened : Spot → (text : List ℕ) → Reading → Opened
+macro_opened spot text reading = record { passage = record { text = text; spot = within_macro spot; ending = None }; reading = reading }
+
+abbrev pub file_opened : Spot → (place : ℕ) → SourceText → Reading → Opened
+file_opened spot place source reading = record {
   passage = record { text = source.bytes; spot = file_spot spot (place + 1); ending = Some reading.conditions };
   reading = record reading { conditions = [] };
-})
+}
+
+abbrev pub opened_file : Spot → (name : List ℕ) → (place : ℕ) → Option SourceText → Reading → Answer Opened
+opened_file spot name place None reading = Err (lex_fault.At IncludeMissing (Some spot.place) (Some name))
+opened_file spot name place (Some source) reading = Ok (file_opened spot place source reading)
 
 abbrev pub included : List SourceText → Spot → (name : List ℕ) → Option ℕ → Reading → Answer Opened
 included sources spot name None reading = opened_file spot name 0 None reading
 included sources spot name (Some place) reading = opened_file spot name place (slice_get sources place) reading
 
+-- what is to be put in
+abbrev pub looked_up : List SourceText → Spot → Entry → Reading → Answer Opened
+looked_up sources spot (macro_text text) reading = Ok (macro_opened spot text reading)
+looked_up sources spot (file name) reading = included sources spot name (include_place sources name) reading
+
+-- a text that is put in takes its bytes and 8 more of the room
+abbrev pub bytes_taken : Opened → ℕ
+bytes_taken inside = length inside.passage.text + 8
+
+abbrev pub with_less_room : Opened → Opened
+with_less_room inside = record inside { reading = record inside.reading { room = inside.reading.room - bytes_taken inside } }
+
+-- there is so much room, or the use or the inclusion is one too many
+abbrev pub put_in : Spot → Opened → Answer Opened
+put_in spot inside = if nat_lt inside.reading.room (bytes_taken inside) then fault_at ExpansionTooLong spot.place else Ok (with_less_room inside)
+
 abbrev pub opened : List SourceText → Spot → Entry → Reading → Answer Opened
-opened sources spot (macro_text text) reading = Ok (record {
-  passage = record { text = text; spot = within_macro spot; ending = None };
-  reading = reading;
-})
-opened sources spot (file name) reading = included sources spot name (include_place sources name) reading
+opened sources spot entry reading = looked_up sources spot entry reading >>= put_in spot
 
 -- the reading of what is left of a text
 abbrev pub scan_passage : Inner → PassageText → Reading → Answer Reading
@@ -144,9 +164,9 @@ unfoldable pub read_roots : (all : List SourceText) → (number : ℕ) → (left
 read_roots all number [] reading = Ok reading
 read_roots all number (source ∷ others) reading = read_source all number source reading >>= λ next. read_roots all (number + 1) others next
 
--- nothing is read yet, and these macros are defined
+-- nothing is read yet, these macros are defined, and 134,217,728 bytes may be put in
 abbrev pub beginning : List DefineText → Reading
-beginning defines = record { tokens = []; macros = with_macros no_macros defines; conditions = [] }
+beginning defines = record { tokens = []; macros = with_macros no_macros defines; conditions = []; room = 134217728 }
 
 -- the tokens of sources under defines, or the fault that is first
 unfoldable pub tokens_of : List SourceText → List DefineText → Answer (List Lexeme)

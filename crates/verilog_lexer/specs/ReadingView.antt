@@ -10,7 +10,7 @@ use Rattle.verilog_lexer.specs.declared.reading.Entry.TheVariants as code
 use Rattle.verilog_lexer.specs.declared.passage.Passage.{Passage}
 
 abbrev pub reading_view : CodeReading → Reading
-reading_view reading = record { tokens = lexemes reading.tokens.items; macros = macros_view reading.macros; conditions = reading.conditions.items }
+reading_view reading = record { tokens = lexemes reading.tokens.items; macros = macros_view reading.macros; conditions = reading.conditions.items; room = reading.room }
 
 abbrev pub entry_view : CodeEntry → Entry
 entry_view (code.MacroText text) = macro_text text.now

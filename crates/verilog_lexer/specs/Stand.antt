@@ -1,5 +1,5 @@
 -- The state of reading: a text, and others that wait for it.
-use Rattle.std.specs.Prelude.{ℕ, ◌≡◌, ◌+◌, ◌-◌, ◌*◌, ◌^◌, ◌<◌, List, [], ◌∷◌, ◌++◌, Ok, length, map, take, drop}
+use Rattle.std.specs.Prelude.{ℕ, ◌≡◌, ◌+◌, ◌-◌, ◌<◌, List, [], ◌∷◌, ◌++◌, Ok, length, map, take, drop}
 use Rattle.verilog_lexer.specs.Answer.{Answer, ◌>>=◌}
 use Rattle.verilog_lexer.specs.Sources.{SourceText}
 use Rattle.verilog_lexer.specs.Spot.{after_all}
@@ -30,13 +30,19 @@ outward depth sources (passage ∷ others) given = outward (depth - 1) sources o
 unfoldable pub outcome : List SourceText → Stand → Answer Reading
 outcome sources stand = outward 64 sources stand.waiting (resumed (64 - length stand.waiting) sources stand.passage stand.reading)
 
--- a measure of the work that is left: a text is worth less than one byte of a text round it
-unfoldable pub weight : ℕ → List PassageText → ℕ
-weight depth [] = 0
-weight depth (passage ∷ others) = (length passage.text + 1) * (2 ^ 64) ^ depth + weight (depth - 1) others
+-- the turns that texts take at most: one for each byte, and one at the end of each
+unfoldable pub text_turns : List PassageText → ℕ
+text_turns [] = 0
+text_turns (passage ∷ others) = length passage.text + 1 + text_turns others
 
+-- the same of files
+unfoldable pub file_turns : List SourceText → ℕ
+file_turns [] = 0
+file_turns (source ∷ others) = length source.bytes + 1 + file_turns others
+
+-- the turns that are left at most: those of the texts, and those of what may still be put in
 unfoldable pub work : Stand → ℕ
-work stand = weight 64 stand.waiting + (length stand.passage.text + 1) * (2 ^ 64) ^ (64 - length stand.waiting)
+work stand = text_turns stand.waiting + (length stand.passage.text + 1) + stand.reading.room
 
 -- a passage after this number of bytes
 abbrev pub advanced : ℕ → PassageText → PassageText
@@ -47,7 +53,6 @@ pub record Enters (sources : List SourceText) (spot : Spot) (entry : Entry) (old
   pub room : length old.waiting < 64
   pub waiting : new.waiting ≡ old.waiting ++ old.passage ∷ []
   pub opened : opened sources spot entry old.reading ≡ Ok (record { passage = new.passage; reading = new.reading })
-  pub bounded : length new.passage.text < 2 ^ 64 - 1
 
 -- the same is said by what is left, and less work is left
 pub record Proceeds (sources : List SourceText) (old new : Stand) : Type 0 where

@@ -1,4 +1,5 @@
 ghost use Rattle.std.specs.Prelude.{◌≡◌, Some, None};
+ghost use Rattle.verilog_lexer.specs.FaultText.{lex_text};
 ghost use Rattle.verilog_lexer.specs.declared.fault.LexFault.TheVariants as lex_fault;
 
 use cov_host::{Name, NoMemory, Place};
@@ -31,6 +32,31 @@ pub enum LexKind {
     SourcesTooLong = 10,
     /// More than 256 sources.
     TooManySources = 11,
+    /// The texts that are put in for uses of macros and for inclusions come to more than 134,217,728 bytes together,
+    /// where each counts its bytes and 8 more.
+    ExpansionTooLong = 12,
+}
+
+impl LexKind {
+    /// The stage, the number and the name, as messages have them.
+    pub fn text(self) -> &'static str
+        ensures { result.now ≡ lex_text self }
+    {
+        match self {
+            LexKind::BadByte => "lex 1 BadByte",
+            LexKind::BadNumber => "lex 2 BadNumber",
+            LexKind::OpenComment => "lex 3 OpenComment",
+            LexKind::OpenCondition => "lex 4 OpenCondition",
+            LexKind::UnknownDirective => "lex 5 UnknownDirective",
+            LexKind::UnknownMacro => "lex 6 UnknownMacro",
+            LexKind::MacroDepth => "lex 7 MacroDepth",
+            LexKind::TooManyTokens => "lex 8 TooManyTokens",
+            LexKind::IncludeMissing => "lex 9 IncludeMissing",
+            LexKind::SourcesTooLong => "lex 10 SourcesTooLong",
+            LexKind::TooManySources => "lex 11 TooManySources",
+            LexKind::ExpansionTooLong => "lex 12 ExpansionTooLong",
+        }
+    }
 }
 
 /// Why sources have no tokens. The place is that of the fault, and None where a file was not added. The

@@ -5,7 +5,7 @@
 //! the first fault with its place. The functions of `laws` say what holds of all tokens: their places rise, each is
 //! at its text or at the use of its macro, its text is a part of a source or a define, and names, keywords and
 //! numbers are sound. An included file that is missing is a fault with its name, so that the caller can read the
-//! file, add it and lex again.
+//! file, add it and lex again. [`lex_counted`] says how many steps the reading takes at most, whatever the macros are.
 //!
 //! ```text
 //! let mut sources = Sources::new(alloc);
@@ -40,6 +40,6 @@ mod tokens;
 pub use defines::Defines;
 pub use fault::{LexFault, LexKind};
 pub use laws::{places_rise, texts_are_parts, tokens_are_sound, tokens_stand};
-pub use lexing::lex;
+pub use lexing::{lex, lex_counted};
 pub use sources::Sources;
 pub use token::{Token, TokenKind, Tokens};

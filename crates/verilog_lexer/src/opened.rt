@@ -1,6 +1,6 @@
 ghost use Rattle.std.specs.Prelude.{◌≡◌, Ok, IfOk, IfErr};
 ghost use Rattle.verilog_lexer.specs.Answer.{IsFault};
-ghost use Rattle.verilog_lexer.specs.Reading.{opened, included};
+ghost use Rattle.verilog_lexer.specs.Reading.{opened, looked_up, included};
 ghost use Rattle.verilog_lexer.specs.Sources.{include_place};
 ghost use Rattle.verilog_lexer.specs.ReadingView.{reading_view, entry_view, passage_view};
 
@@ -10,7 +10,7 @@ use crate::spot::Spot;
 use crate::{LexFault, LexKind, Sources};
 use std::alloc::Global;
 
-/// Opens what is to be read in the place of a directive or a macro: the text of a macro, or an included file.
+/// Opens what is to be read in the place of a directive or a macro, where there is room for it.
 pub(crate) fn opened<'a>(
     alloc: Global,
     sources: &'a Sources,
@@ -20,6 +20,22 @@ pub(crate) fn opened<'a>(
 ) -> Result<Passage<'a>, LexFault>
     ensures ok { IfOk result (λ passage. opened sources.now spot (entry_view entry.entry) (reading_view reading.old) ≡ Ok (record { passage = passage_view passage; reading = reading_view reading.new })) }
     ensures fault { IfErr result (IsFault (opened sources.now spot (entry_view entry.entry) (reading_view reading.old))) }
+{
+    let inside = looked_up(alloc, sources, reading, spot, entry)?;
+    reading.put_in(spot, &inside)?;
+    Ok(inside)
+}
+
+/// Looks up what is to be read: the text of a macro, or an included file.
+fn looked_up<'a>(
+    alloc: Global,
+    sources: &'a Sources,
+    reading: &mut Reading<'a>,
+    spot: Spot,
+    entry: Entry<'a>,
+) -> Result<Passage<'a>, LexFault>
+    ensures ok { IfOk result (λ passage. looked_up sources.now spot (entry_view entry.entry) (reading_view reading.old) ≡ Ok (record { passage = passage_view passage; reading = reading_view reading.new })) }
+    ensures fault { IfErr result (IsFault (looked_up sources.now spot (entry_view entry.entry) (reading_view reading.old))) }
 {
     match entry {
         Entry::MacroText(text) => Ok(Passage {

@@ -12,6 +12,8 @@ use cov_host::Place;
 use smallvec::SmallVec;
 use std::alloc::Global;
 use std::mem;
+use std::sync::ledger::Ledger;
+use step_counts::Steps;
 
 /// How deep uses of macros and inclusions nest.
 const DEEPEST: usize = 64;
@@ -29,7 +31,7 @@ pub(crate) struct Reader<'a> {
 impl<'a> Reader<'a> {
     ghost use Rattle.verilog_lexer.specs.Reading.{beginning, root_passage, read_passage, read_source, inner_at};
     ghost use Rattle.verilog_lexer.specs.ReadingView.{reading_view, entry_view};
-    ghost use Rattle.verilog_lexer.specs.Stand.{stand_of, outcome, Proceeds, Enters};
+    ghost use Rattle.verilog_lexer.specs.Stand.{stand_of, outcome, work, Proceeds, Enters};
     ghost use Rattle.verilog_lexer.specs.TokenView.{lexemes};
 
     /// Nothing is read yet.
@@ -58,33 +60,46 @@ impl<'a> Reader<'a> {
     }
 
     /// Reads the source at a place, where it is one that is read by itself.
-    pub(crate) fn read_source(&mut self, place: usize) -> Result<(), LexFault>
+    pub(crate) fn read_source<L: Ledger>(
+        &mut self,
+        place: usize,
+        steps: &mut Steps<L>,
+    ) -> Result<(), LexFault>
         requires within { place < length self.old.sources.now }
         requires none_waits { self.old.waiting.items ≡ [] }
         ensures ok { OnOk result (IfSome (slice_get self.old.sources.now place) (λ source. read_source self.old.sources.now (place + 1) source (reading_view self.old.reading) ≡ Ok (reading_view self.new.reading))) }
         ensures fault { IfErr result (λ fault. IfSome (slice_get self.old.sources.now place) (λ source. IsFault (read_source self.old.sources.now (place + 1) source (reading_view self.old.reading)) fault)) }
         ensures sources { self.new.sources.now ≡ self.old.sources.now }
         ensures none_waits { OnOk result (self.new.waiting.items ≡ []) }
+        ensures cost { IfSome (slice_get self.old.sources.now place) (λ source. steps.new ≤ steps.old + (length source.bytes + 1 + (reading_view self.old.reading).room)) }
+        ensures room { OnOk result (IfSome (slice_get self.old.sources.now place) (λ source. steps.new + (reading_view self.new.reading).room ≤ steps.old + (length source.bytes + 1 + (reading_view self.old.reading).room))) }
     {
         let _count = self.sources.len();
         let Some(source) = self.sources.get(place) else {
             return Ok(());
         };
         if source.is_root() {
-            self.read_root(place as u32 + 1, source.bytes())
+            self.read_root(place as u32 + 1, source.bytes(), steps)
         } else {
             Ok(())
         }
     }
 
     /// Reads a file that is read by itself.
-    pub(crate) fn read_root(&mut self, number: u32, text: &'a [u8]) -> Result<(), LexFault>
+    pub(crate) fn read_root<L: Ledger>(
+        &mut self,
+        number: u32,
+        text: &'a [u8],
+        steps: &mut Steps<L>,
+    ) -> Result<(), LexFault>
         requires within { length text.now ≤ 67108864 }
         requires none_waits { self.old.waiting.items ≡ [] }
         ensures ok { OnOk result (read_passage self.old.sources.now (root_passage number text.now) (reading_view self.old.reading) ≡ Ok (reading_view self.new.reading)) }
         ensures fault { IfErr result (IsFault (read_passage self.old.sources.now (root_passage number text.now) (reading_view self.old.reading))) }
         ensures sources { self.new.sources.now ≡ self.old.sources.now }
         ensures none_waits { OnOk result (self.new.waiting.items ≡ []) }
+        ensures cost { steps.new ≤ steps.old + (length text.now + 1 + (reading_view self.old.reading).room) }
+        ensures room { OnOk result (steps.new + (reading_view self.new.reading).room ≤ steps.old + (length text.now + 1 + (reading_view self.old.reading).room)) }
     {
         self.passage = Passage {
             text,
@@ -98,18 +113,22 @@ impl<'a> Reader<'a> {
             },
             ending: Some(Conditions::new(self.alloc)),
         };
-        self.read_all()
+        self.read_all(steps)
     }
 
-    /// Reads all that is left.
-    fn read_all(&mut self) -> Result<(), LexFault>
+    /// Reads all that is left, turn after turn. Each turn is one step.
+    #[tactic(auto, using(crate::proofs::Works::work_some))]
+    fn read_all<L: Ledger>(&mut self, steps: &mut Steps<L>) -> Result<(), LexFault>
         requires { length self.old.waiting.items ≤ 64 }
         ensures ok { OnOk result (outcome self.old.sources.now (stand_of self.old) ≡ Ok (reading_view self.new.reading)) }
         ensures fault { IfErr result (IsFault (outcome self.old.sources.now (stand_of self.old))) }
         ensures sources { self.new.sources.now ≡ self.old.sources.now }
         ensures none_waits { OnOk result (self.new.waiting.items ≡ []) }
+        ensures cost { steps.new ≤ steps.old + work (stand_of self.old) }
+        ensures room { OnOk result (steps.new + (reading_view self.new.reading).room ≤ steps.old + work (stand_of self.old)) }
     {
         loop {
+            steps.count();
             let goes_on = self.step()?;
             if !goes_on {
                 return Ok(());
@@ -123,6 +142,7 @@ impl<'a> Reader<'a> {
         ensures proceeds { IfOk result (λ goes_on. OnTrue goes_on (Proceeds self.old.sources.now (stand_of self.old) (stand_of self.new))) }
         ensures ends { IfOk result (λ goes_on. OnFalse goes_on (outcome self.old.sources.now (stand_of self.old) ≡ Ok (reading_view self.new.reading))) }
         ensures none_waits { IfOk result (λ goes_on. OnFalse goes_on (self.new.waiting.items ≡ [])) }
+        ensures room { IfOk result (λ goes_on. OnFalse goes_on ((reading_view self.new.reading).room < work (stand_of self.old))) }
         ensures fault { IfErr result (IsFault (outcome self.old.sources.now (stand_of self.old))) }
         ensures sources { self.new.sources.now ≡ self.old.sources.now }
         ensures depth { IfOk result (λ goes_on. length self.new.waiting.items ≤ 64) }
@@ -142,6 +162,7 @@ impl<'a> Reader<'a> {
         ensures proceeds { IfOk result (λ goes_on. OnTrue goes_on (Proceeds self.old.sources.now (stand_of self.old) (stand_of self.new))) }
         ensures ends { IfOk result (λ goes_on. OnFalse goes_on (outcome self.old.sources.now (stand_of self.old) ≡ Ok (reading_view self.new.reading))) }
         ensures none_waits { IfOk result (λ goes_on. OnFalse goes_on (self.new.waiting.items ≡ [])) }
+        ensures room { IfOk result (λ goes_on. OnFalse goes_on ((reading_view self.new.reading).room < work (stand_of self.old))) }
         ensures fault { IfErr result (IsFault (outcome self.old.sources.now (stand_of self.old))) }
         ensures sources { self.new.sources.now ≡ self.old.sources.now }
         ensures depth { IfOk result (λ goes_on. length self.new.waiting.items ≤ 64) }

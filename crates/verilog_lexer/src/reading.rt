@@ -8,6 +8,7 @@ ghost use Rattle.verilog_lexer.specs.declared.fault.LexFault.TheVariants as lex_
 
 use crate::condition::{Conditions, is_left_out, named, obey};
 use crate::macros::Macros;
+use crate::passage::Passage;
 use crate::piece::{Piece, left_out_piece, read_piece};
 use crate::run::{byte_at, front};
 use crate::spot::Spot;
@@ -17,6 +18,13 @@ use cov_host::Name;
 use std::alloc::Global;
 use std::mem;
 
+/// The most bytes that texts have together which are put in for uses of macros and for inclusions. Since each turn of the
+/// reader ends a text or passes over a byte of one, this bounds the turns too.
+const MOST_PUT_IN: usize = 134_217_728;
+
+/// How many bytes more than it has a text counts that is put in.
+const BYTES_OF_EACH: usize = 8;
+
 /// What is to be read in the place of a directive or a macro.
 #[derive(Clone, Copy)]
 pub(crate) enum Entry<'a> {
@@ -24,18 +32,20 @@ pub(crate) enum Entry<'a> {
     File(&'a [u8]),
 }
 
-/// What has been read so far: the tokens, the macros, and the open conditions of the file.
+/// What has been read so far: the tokens, the macros, the open conditions of the file, and how many bytes may still be
+/// put in for uses of macros and for inclusions.
 #[derive(Drop)]
 pub(crate) struct Reading<'a> {
     alloc: Global,
     tokens: Vec<Token<'a>>,
     macros: Macros<'a>,
     conditions: Conditions,
+    room: usize,
 }
 
 impl<'a> Reading<'a> {
-    ghost use Rattle.verilog_lexer.specs.Reading.{meaning, expanded, front_piece, beginning, ended, Step};
-    ghost use Rattle.verilog_lexer.specs.ReadingView.{reading_view, entry_view, entry_option};
+    ghost use Rattle.verilog_lexer.specs.Reading.{meaning, expanded, front_piece, beginning, ended, put_in, Step};
+    ghost use Rattle.verilog_lexer.specs.ReadingView.{reading_view, entry_view, entry_option, passage_view};
     ghost use Rattle.verilog_lexer.specs.TokenView.{lexemes};
 
     /// Nothing yet, under the macros that are defined before.
@@ -50,6 +60,7 @@ impl<'a> Reading<'a> {
             tokens: Vec::new(alloc),
             macros,
             conditions: Conditions::new(alloc),
+            room: MOST_PUT_IN,
         })
     }
 
@@ -151,8 +162,22 @@ impl<'a> Reading<'a> {
             tokens,
             macros: _,
             conditions: _,
+            room: _,
         } = self;
         tokens
+    }
+
+    /// Puts a text in for the use of a macro or an inclusion at a spot, where there is room for it.
+    pub(crate) fn put_in(&mut self, spot: Spot, inside: &Passage<'_>) -> Result<(), LexFault>
+        ensures ok { OnOk result (put_in spot (record { passage = passage_view inside.now; reading = reading_view self.old }) ≡ Ok (record { passage = passage_view inside.now; reading = reading_view self.new })) }
+        ensures fault { IfErr result (IsFault (put_in spot (record { passage = passage_view inside.now; reading = reading_view self.old }))) }
+    {
+        let bytes = inside.text.len() + BYTES_OF_EACH;
+        if self.room < bytes {
+            return Err(LexFault::at(LexKind::ExpansionTooLong, spot.place));
+        }
+        self.room -= bytes;
+        Ok(())
     }
 
     /// The text of the macro that is used.

@@ -4,6 +4,8 @@
 #[cfg(test)]
 mod cases;
 #[cfg(test)]
+mod expansions;
+#[cfg(test)]
 mod files;
 #[cfg(test)]
 mod limits;

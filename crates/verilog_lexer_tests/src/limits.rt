@@ -5,7 +5,7 @@ use std::alloc::Global;
 use verilog_lexer::{Defines, LexFault, LexKind, Sources};
 
 /// The name of a macro: so many letters.
-fn push_name(text: &mut Text, letters: usize) -> Result<(), NoMemory> {
+pub(crate) fn push_name(text: &mut Text, letters: usize) -> Result<(), NoMemory> {
     for _ in 0..letters {
         text.push(b'x')?;
     }
@@ -13,7 +13,7 @@ fn push_name(text: &mut Text, letters: usize) -> Result<(), NoMemory> {
 }
 
 /// A macro of so many letters with this text before the next name.
-fn push_macro(text: &mut Text, letters: usize, body: &str) -> Result<(), NoMemory> {
+pub(crate) fn push_macro(text: &mut Text, letters: usize, body: &str) -> Result<(), NoMemory> {
     text.extend_from_slice(b"`define ")?;
     push_name(text, letters)?;
     text.extend_from_slice(body.as_bytes())

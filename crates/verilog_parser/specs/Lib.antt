@@ -2,3 +2,4 @@ pub mod LeftOut
 pub mod Parses
 pub mod Statements
 pub mod Processes
+pub mod FaultText

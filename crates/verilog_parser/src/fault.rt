@@ -1,3 +1,6 @@
+ghost use Rattle.std.specs.Prelude.{◌≡◌};
+ghost use Rattle.verilog_parser.specs.FaultText.{parse_text};
+
 use cov_host::{Name, Place};
 use thiserror::Error;
 
@@ -12,6 +15,20 @@ pub enum ParseKind {
     TooDeep = 3,
     /// No rule goes on with a token that begins a form which the language leaves out.
     LeftOut = 4,
+}
+
+impl ParseKind {
+    /// The stage, the number and the name, as messages have them.
+    pub fn text(self) -> &'static str
+        ensures { result.now ≡ parse_text self }
+    {
+        match self {
+            ParseKind::Unexpected => "parse 1 Unexpected",
+            ParseKind::EarlyEnd => "parse 2 EarlyEnd",
+            ParseKind::TooDeep => "parse 3 TooDeep",
+            ParseKind::LeftOut => "parse 4 LeftOut",
+        }
+    }
 }
 
 /// Why tokens are no modules. The place is that of the token, and of the part that nests too deep, and None where the

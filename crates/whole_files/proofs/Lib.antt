@@ -1,2 +1,3 @@
 pub mod EffectLemmas
 pub mod Refusals
+pub mod Lines

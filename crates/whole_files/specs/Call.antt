@@ -1,5 +1,5 @@
 -- The calls on a host that read and write files.
-use Rattle.std.specs.Prelude.{ℕ, List, codes}
+use Rattle.std.specs.Prelude.{ℕ, List, ◌++◌, codes}
 use Rattle.whole_files.specs.declared.call.Call.{Call}
 use Rattle.whole_files.specs.declared.call.Call.TheVariants.{OpenRead, Read, OpenWrite, Write, CloseWrite}
 
@@ -10,3 +10,7 @@ call_name Read = codes "read"
 call_name OpenWrite = codes "open_write"
 call_name Write = codes "write"
 call_name CloseWrite = codes "close_write"
+
+-- the line that is warned of a call on a file that gave nothing: the call as it is written, and the file
+abbrev pub file_line : List ℕ → List ℕ → List ℕ
+file_line call file = codes "covered: files: " ++ call ++ codes " " ++ file ++ codes "\n"

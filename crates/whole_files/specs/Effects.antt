@@ -1,6 +1,6 @@
 -- What a stage of the program changes outside.
 use Rattle.std.specs.Prelude.{◌≡◌, ◌⊎◌, ◌≤◌, ℕ, List, take, Option, None, IfSome, IsSome, IsSomeAnd, MatchOption}
-use Rattle.cov_host.specs.Outside.{Outside, Files, SameFiles, HasFile, AppendsTo, IsCounted, KeepsFiles, KeepsOutput, KeepsStreams}
+use Rattle.cov_host.specs.Outside.{Outside, Files, SameFiles, HasFile, Told, Appends, AppendsPrefix, AppendsTo, IsCounted, KeepsFiles, KeepsOutput, KeepsStreams}
 
 -- no count falls
 pub record CountsUp (before after : Outside) : Type 0 where
@@ -30,3 +30,9 @@ AppendsFront target text old new = (count : ℕ) × AppendsTo target (take count
 -- the file has this text, or is as before, or holds a front of the text
 abbrev pub HoldsFront : List ℕ → List ℕ → Files → Files → Type 0
 HoldsFront name text old new = SameFiles old new ⊎ ((count : ℕ) × HasFile name (take count text) old new)
+
+-- the line was warned whole; or a front of it, and the refusal was counted
+abbrev pub WarnsLine : List ℕ → Outside → Outside → Type 0
+WarnsLine line before after =
+    Told (Appends line) before.warned after.warned
+    ⊎ (IsCounted before.mute after.mute × Told (AppendsPrefix line) before.warned after.warned)

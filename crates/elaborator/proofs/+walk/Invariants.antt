@@ -1,9 +1,12 @@
-use Rattle.std.proofs.Common.{◌≡◌, ◌+◌, ◌*◌, drop}
+use Rattle.std.proofs.Common.{◌≡◌, ◌+◌, ◌*◌, ◌<◌, ◌^◌, drop}
 use Rattle.verilog_tree.specs.View.{givens_view, items_view, module_view, modules_view, ones_view}
 use Rattle.flat_design.specs.Scope.{binding_of}
 use Rattle.elab_declarations.specs.Constants.{overrides_view}
 use Rattle.elab_instances.specs.InstanceView.{instantiation_view}
+use Rattle.tree_places.specs.Counted.{ones_nodes}
 use Rattle.elaborator.specs.Named.{item_of}
+use Rattle.elaborator.specs.Room.{HaveRoom, items_room}
+use Rattle.elaborator.specs.Walk.{items_lines}
 use Rattle.elaborator.specs.declared.walk.Numbers.{Numbers}
 use Rattle.elaborator.specs.declared.walk.Walk.{Walk}
 use Rattle.elaborator.proofs.KeptLemmas.{Keeps}
@@ -21,6 +24,7 @@ invariant-items::walk_items-loop-item l =
       goes : (later : Walk) (others : Numbers) → ItemsGo l.fn.ground.base ms l.fn.depth given g (items_view (drop l.item-index l.items)) l.walk l.numbers later others → ItemsGo l.fn.ground.base ms l.fn.depth given g (items_view l.fn.items) l.fn.walk l.fn.numbers later others;
       scope : binding_of l.scope ≡ g;
       keeps : Keeps l.fn.walk l.walk;
+      room : HaveRoom l.numbers (items_lines (items_view (drop l.item-index l.items))) (items_room g (items_view (drop l.item-index l.items)));
     }
 
 -- the same by instances
@@ -35,6 +39,7 @@ invariant-instances::walk_ones-loop-one l =
     record {
       goes : (later : Walk) → OnesGo l.fn.ground.base ms l.fn.depth given g l.fn.item.place x m os (ones_view (drop l.one-index l.ones)) l.fn.numbers l.walk later → OnesGo l.fn.ground.base ms l.fn.depth given g l.fn.item.place x m os (ones_view l.fn.ones) l.fn.numbers l.fn.walk later;
       keeps : Keeps l.fn.walk l.walk;
+      few : ones_nodes g (ones_view (drop l.one-index l.ones)) < 2 ^ 32;
     }
 
 -- an instance is one level deeper, and each other call is of a function further down

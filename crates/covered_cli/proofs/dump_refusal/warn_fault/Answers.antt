@@ -1,5 +1,5 @@
 use Rattle.std.proofs.Common.{rules}
-use Rattle.covered_cli.proofs.Lines.{WarnsLine-is}
+use Rattle.whole_files.proofs.Lines.{WarnsLine-is}
 use Rattle.covered_cli.proofs.dump_refusal.warn_fault.Goals as goal
 
 pub returns-clause-line : goal.returns-clause-line

@@ -4,7 +4,7 @@ use Rattle.covered_cli.proofs.Causes.{command_or_fault, contradiction_cause, usa
 use Rattle.covered_cli.proofs.Complete.{bad_dump_ends, bad_dump_not_done, bad_source_ends, bad_source_not_done, done_by, good_ends, points_end, points_not_done, unbound_ends, unbound_not_done}
 use Rattle.covered_cli.proofs.Databases.{database_cause, early_status, files_cause, good_databases_end, stands_later}
 use Rattle.covered_cli.proofs.Leaving.{all_later, left_later}
-use Rattle.covered_cli.proofs.Lines.{WarnsLine-since}
+use Rattle.whole_files.proofs.Lines.{WarnsLine-since}
 use Rattle.covered_cli.proofs.Selfruns.{counts_printed, selfrun_ends}
 use Rattle.covered_cli.proofs.Untouched.{all_else, fault_not_done, no_text}
 use Rattle.covered_cli.proofs.top_call.covered.Goals as goal

@@ -1,4 +1,4 @@
-use Rattle.std.proofs.Common.{◌≡◌, ◌+◌, ◌∙◌, ◌∷◌, map, drop, subst, sym, ap, rules, arith}
+use Rattle.std.proofs.Common.{◌≡◌, ◌+◌, ◌<◌, ◌^◌, ◌∙◌, ◌∷◌, map, drop, subst, sym, ap, rules, arith}
 use Rattle.std.proofs.lemmas.List.{at_drop_all}
 use Rattle.four_state.specs.Vector.{Vector}
 use Rattle.design_model.specs.Tree as flat
@@ -16,6 +16,7 @@ use Rattle.elab_checks.proofs.RestoredLemmas.{SameBut, same_itself, same_with, w
 use Rattle.elab_bodies.specs.Sound.{IsSoundStatement, AreSoundStatements, AreSoundItems, InTurns}
 use Rattle.elab_bodies.specs.View.{arm_view, else_view}
 use Rattle.elab_bodies.proofs.ClearTurns.{clear_turn}
+use Rattle.elab_bodies.proofs.FewerNodes.{turn_nodes}
 use Rattle.elab_bodies.proofs.FlatLists.{values_from, stmts_before, stmts_before_none, next_stmts, next_turn, same_turns, arms_before, arms_before_none, next_arms}
 use Rattle.elab_bodies.proofs.SoundLoops.{same_sound}
 use Rattle.verilog_tree.proofs.StatementViews.{arms_from, body_view, statements_from}
@@ -24,10 +25,13 @@ use Rattle.elab_bodies.proofs.statements.+statement.Goals as goal
 pub branch-otherwise-requires : goal.branch-otherwise-requires
 branch-otherwise-requires t c =
     let kept = sym c.in_ok-yes.ensures.kept in
-    (search rules, (c.requires.base, (subst (λ g. IsClear g) kept c.requires.clear, subst (λ g. AreSoundStatements g (else_view c.args.no.now)) kept c.requires.sound.2)))
+    let other = else_view c.args.no.now in
+    let few_nodes = subst (λ g. c.statement.new.nodes + all_statement_nodes g other < 2 ^ 32) kept (omega (arith, c.requires.few_nodes, c.in_ok-test.ensures.counted, c.in_ok-yes.ensures.counted)) in
+    (search rules, (c.requires.base, (subst (λ g. IsClear g) kept c.requires.clear, (subst (λ g. AreSoundStatements g other) kept c.requires.sound.2, (omega (arith, c.requires.few_lines, c.take-number.ensures.counted, c.in_ok-yes.ensures.lines), few_nodes)))))
 
 pub select-case_arms-requires : goal.select-case_arms-requires
-select-case_arms-requires t c = (search rules, (c.requires.base, (c.requires.clear, c.requires.sound.1)))
+select-case_arms-requires t c =
+    (search rules, (c.requires.base, (c.requires.clear, (c.requires.sound.1, (omega (arith, c.requires.few_lines, c.take-number.ensures.counted), omega (arith, c.requires.few_nodes, c.in_ok-on.ensures.counted))))))
 
 pub statements-loop-part-preserved : goal.statements-loop-part-preserved
 statements-loop-part-preserved t c =
@@ -109,15 +113,29 @@ for_loop-turn_statements-requires t c =
     let g = binding_of c.args.scope.now in
     let values = c.as_slice-values.ensures ∙ c.in_ok-values.ensures in
     let body = sym (body_view c.args.header.now) in
-    (search (rules, the_lemmas), (c.requires.base, (c.requires.clear, same_sound _ _ _ _ g _ _ values c.in_ok-variable.ensures body c.requires.sound.1)))
+    (search (rules, the_lemmas), (c.requires.base, (c.requires.clear, (same_sound _ _ _ _ g _ _ values c.in_ok-variable.ensures body c.requires.sound.1, (omega (arith, ap lines body, c.requires.few_lines, c.take-number.ensures.counted), omega (arith, ap (statement_nodes g) body, c.requires.few_nodes))))))
+
+pub for_loop-pass_lines-requires : goal.for_loop-pass_lines-requires
+for_loop-pass_lines-requires t c =
+    let body = sym (body_view c.args.header.now) in
+    omega (arith, ap lines body, c.requires.few_lines, c.take-number.ensures.counted)
+
+pub for_loop-pass_statement_nodes-requires : goal.for_loop-pass_statement_nodes-requires
+for_loop-pass_statement_nodes-requires t c =
+    let g = binding_of c.args.scope.now in
+    let x = c.in_ok-variable.variable in
+    let before = c.copied-before.ensures ∙ c.get.ensures.value ∙ ap g c.as_slice.ensures in
+    let kept = c.in_ok-put_back.ensures ∙ restored_same x c.copied-before.result (binding_of c.turn_statements.new.scope) g c.in_ok-turns.ensures.kept (sym before) in
+    let same = ap (λ h. statement_nodes h (statement_view (out-For c.args.header.now).body)) kept ∙ ap (statement_nodes g) (sym (body_view c.args.header.now)) in
+    omega (arith, same, c.requires.few_nodes)
 
 pub for_loop-returns-clause-built : goal.for_loop-returns-clause-built
 for_loop-returns-clause-built t c =
     let g = binding_of c.args.scope.now in
     let values = c.as_slice-values.ensures ∙ c.in_ok-values.ensures in
     let body = sym (body_view c.args.header.now) in
-    let turns = c.in_ok-turns.ensures.built ∙ same_turns c.args.base _ _ _ _ g _ _ _ _ c.args.nodes.now values c.in_ok-variable.ensures body c.in_ok-number.ensures.counted in
-    c.in_ok-unrolled.ensures ∙ ap (λ k. flat.turns c.args.place k (stmts_of (map stmt_view c.in_ok-turns.turns.items))) c.in_ok-number.ensures.value ∙ ap (flat.turns c.args.place c.args.line.now) turns
+    let turns = c.in_ok-turns.ensures.built ∙ same_turns c.args.base _ _ _ _ g _ _ _ _ c.args.nodes.now values c.in_ok-variable.ensures body c.take-number.ensures.counted in
+    c.in_ok-unrolled.ensures ∙ ap (λ k. flat.turns c.args.place k (stmts_of (map stmt_view c.in_ok-turns.turns.items))) c.take-number.ensures.value ∙ ap (flat.turns c.args.place c.args.line.now) turns
 
 pub for_loop-returns-clause-kept : goal.for_loop-returns-clause-kept
 for_loop-returns-clause-kept t c =
@@ -132,7 +150,7 @@ for_loop-returns-clause-counted t c =
     let n = c.args.nodes.now in
     let kept = for_loop-returns-clause-kept t c in
     let body = sym (body_view c.args.header.now) in
-    c.in_ok-pass_statement_nodes.ensures ∙ ap (λ h. n + statement_nodes h (statement_view (out-For c.args.header.now).body)) kept ∙ ap (λ s. n + statement_nodes g s) body
+    c.pass_statement_nodes.ensures ∙ ap (λ h. n + statement_nodes h (statement_view (out-For c.args.header.now).body)) kept ∙ ap (λ s. n + statement_nodes g s) body
 
 pub turn_statements-statement-requires : goal.turn_statements-statement-requires
 turn_statements-statement-requires t c =
@@ -144,7 +162,8 @@ turn_statements-statement-requires t c =
     let next : drop i c.args.values.now ≡ v ∷ drop (i + 1) c.args.values.now = values_from c.args.values.now i v (omega arith) c.value-item.is in
     let sound : InTurns (v ∷ drop (i + 1) c.args.values.now) (λ v. IsSoundStatement (with_turn x v g) s) = subst (λ vs. InTurns vs (λ v. IsSoundStatement (with_turn x v g) s)) next c.loop-value.invariant.sound in
     let turn : with_turn x v g ≡ binding_of c.insert.new.self = sym (c.in_ok-insert.ensures ∙ with_same x (Turn v) (binding_of c.loop-value.scope) g c.loop-value.invariant.kept) in
-    (search rules, (c.requires.base, (subst (λ h. IsClear h) turn (clear_turn x v g c.requires.clear), subst (λ h. IsSoundStatement h s) turn sound.0)))
+    let few_nodes = subst (λ h. c.args.nodes + statement_nodes h s < 2 ^ 32) turn (omega (arith, turn_nodes x v g s, c.requires.few_nodes)) in
+    (search rules, (c.requires.base, (subst (λ h. IsClear h) turn (clear_turn x v g c.requires.clear), (subst (λ h. IsSoundStatement h s) turn sound.0, (c.requires.few_lines, few_nodes)))))
 
 pub turn_statements-loop-value-preserved : goal.turn_statements-loop-value-preserved
 turn_statements-loop-value-preserved t c =

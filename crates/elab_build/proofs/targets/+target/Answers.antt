@@ -48,6 +48,12 @@ target-alone-requires-clause-sound t c =
     let sound = subst (λ x. IsSoundTarget g x) (bit_view e c.in-Bit.of c.in-Bit.index (sym c.deref.ensures ∙ c.in-Bit.is)) c.requires.sound in
     (target_bit g e.place (expr_view c.in-Bit.of) (expr_view c.in-Bit.index) c.requires.clear sound).0
 
+pub target-alone-requires-clause-few : goal.target-alone-requires-clause-few
+target-alone-requires-clause-few t c =
+    let e = c.args.expr.now in
+    let all = ap (nodes (binding_of c.args.scope.now)) (bit_view e c.in-Bit.of c.in-Bit.index (sym c.deref.ensures ∙ c.in-Bit.is)) in
+    omega (arith, all, c.requires.few)
+
 pub target-shape_of-width-requires-in-Part : goal.target-shape_of-width-requires-in-Part
 target-shape_of-width-requires-in-Part t c = record { sound = target_sound (binding_of c.args.scope.now) (expr_view c.args.expr.now) c.requires.clear c.requires.sound }
 
@@ -59,9 +65,15 @@ target-alone-requires-in-Part-clause-sound t c =
     let sound = subst (λ x. IsSoundTarget g x) (part_view e p.of p.high p.low p.bracket (sym c.deref.ensures ∙ p.is)) c.requires.sound in
     (target_part g e.place (expr_view p.of) (expr_view p.high) (expr_view p.low) p.bracket c.requires.clear sound).1.0
 
+pub target-alone-requires-in-Part-clause-few : goal.target-alone-requires-in-Part-clause-few
+target-alone-requires-in-Part-clause-few t c =
+    let p = c.in-Part in
+    let all = ap (nodes (binding_of c.args.scope.now)) (part_view c.args.expr.now p.of p.high p.low p.bracket (sym c.deref.ensures ∙ p.is)) in
+    omega (arith, all, c.requires.few)
+
 pub concat_target-targets-requires : goal.concat_target-targets-requires
 concat_target-targets-requires t c =
-    (search rules, (c.requires.base, (c.requires.clear, target_concat (binding_of c.args.scope.now) c.args.place (exprs_of (exprs_view c.args.parts.now)) c.requires.sound)))
+    (search rules, (c.requires.base, (c.requires.clear, (target_concat (binding_of c.args.scope.now) c.args.place (exprs_of (exprs_view c.args.parts.now)) c.requires.sound, omega (arith, c.requires.few)))))
 
 pub target-returns-else-is_memory_name-clause-built : goal.target-returns-else-is_memory_name-clause-built
 target-returns-else-is_memory_name-clause-built t c =

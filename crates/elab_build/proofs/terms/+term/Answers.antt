@@ -2,7 +2,7 @@ use Rattle.std.proofs.Common.{◌≡◌, ◌+◌, ◌∙◌, map, drop, subst, s
 use Rattle.std.proofs.lemmas.List.{at_drop_all}
 use Rattle.design_model.specs.View.{term_view}
 use Rattle.flat_design.specs.Identifiers.{base_name}
-use Rattle.flat_design.specs.Numbering.{nodes, all_nodes}
+use Rattle.flat_design.specs.Numbering.{nodes, all_nodes, one_if}
 use Rattle.flat_design.specs.Scope.{binding_of, is_memory_name, look_up, thing_of, thing_number}
 use Rattle.flat_design.specs.Terms.{terms}
 use Rattle.verilog_tree.specs.Tree.{exprs_of, an_expr}
@@ -21,47 +21,49 @@ binary_term-shape_of-requires-2 t c = record {
 pub binary_term-term-requires : goal.binary_term-term-requires
 binary_term-term-requires t c =
     let s = sound_binary (binding_of c.args.scope.now) c.args.around.place c.args.op (expr_view c.args.a.now) (expr_view c.args.b.now) c.requires.sound in
-    (search rules, (c.requires.base, s.0))
+    let test = ap one_if c.one_names_thing.ensures in
+    (search rules, (c.requires.base, (s.0, omega (arith, c.requires.few, test, c.take_if-node.ensures.counted))))
 
 pub binary_term-term-requires-2 : goal.binary_term-term-requires-2
 binary_term-term-requires-2 t c =
     let s = sound_binary (binding_of c.args.scope.now) c.args.around.place c.args.op (expr_view c.args.a.now) (expr_view c.args.b.now) c.requires.sound in
-    (search rules, (c.requires.base, s.1))
+    let test = ap one_if c.one_names_thing.ensures in
+    (search rules, (c.requires.base, (s.1, omega (arith, c.requires.few, test, c.take_if-node.ensures.counted, c.in_ok-a.ensures.counted))))
 
 pub choice_term-condition_term-requires : goal.choice_term-condition_term-requires
 choice_term-condition_term-requires t c =
     let s = sound_choice (binding_of c.args.scope.now) c.args.around.place (expr_view c.args.test.now) (expr_view c.args.yes.now) (expr_view c.args.no.now) c.requires.sound in
-    (search rules, (c.requires.base, s.0))
+    (search rules, (c.requires.base, (s.0, omega (arith, c.requires.few))))
 
 pub choice_term-term-requires : goal.choice_term-term-requires
 choice_term-term-requires t c =
     let s = sound_choice (binding_of c.args.scope.now) c.args.around.place (expr_view c.args.test.now) (expr_view c.args.yes.now) (expr_view c.args.no.now) c.requires.sound in
-    (search rules, (c.requires.base, s.1.0))
+    (search rules, (c.requires.base, (s.1.0, omega (arith, c.requires.few, c.in_ok-test.ensures.counted))))
 
 pub choice_term-term-requires-2 : goal.choice_term-term-requires-2
 choice_term-term-requires-2 t c =
     let s = sound_choice (binding_of c.args.scope.now) c.args.around.place (expr_view c.args.test.now) (expr_view c.args.yes.now) (expr_view c.args.no.now) c.requires.sound in
-    (search rules, (c.requires.base, s.1.1))
+    (search rules, (c.requires.base, (s.1.1, omega (arith, c.requires.few, c.in_ok-test.ensures.counted, c.in_ok-yes.ensures.counted))))
 
 pub part_term-alone-requires-2 : goal.part_term-alone-requires-2
 part_term-alone-requires-2 t c =
     let s = sound_part (binding_of c.args.scope.now) c.args.around.place (expr_view c.args.of.now) (expr_view c.args.high.now) (expr_view c.args.low.now) c.args.bracket c.requires.sound in
-    (search rules, (c.requires.base, s.1.0))
+    (search rules, (c.requires.base, (s.1.0, omega (arith, c.requires.few, c.in_ok-of.ensures.counted))))
 
 pub part_term-alone-requires-3 : goal.part_term-alone-requires-3
 part_term-alone-requires-3 t c =
     let s = sound_part (binding_of c.args.scope.now) c.args.around.place (expr_view c.args.of.now) (expr_view c.args.high.now) (expr_view c.args.low.now) c.args.bracket c.requires.sound in
-    (search rules, (c.requires.base, s.1.1))
+    (search rules, (c.requires.base, (s.1.1, omega (arith, c.requires.few, c.in_ok-of.ensures.counted, c.in_ok-high.ensures.counted))))
 
 pub slide_term-alone-requires-2 : goal.slide_term-alone-requires-2
 slide_term-alone-requires-2 t c =
     let s = sound_slide (binding_of c.args.scope.now) c.args.around.place (expr_view c.args.of.now) (expr_view c.args.from.now) (expr_view c.args.width.now) c.args.up c.args.bracket c.requires.sound in
-    (search rules, (c.requires.base, s.1.0))
+    (search rules, (c.requires.base, (s.1.0, omega (arith, c.requires.few, c.in_ok-of.ensures.counted))))
 
 pub slide_term-alone-requires-3 : goal.slide_term-alone-requires-3
 slide_term-alone-requires-3 t c =
     let s = sound_slide (binding_of c.args.scope.now) c.args.around.place (expr_view c.args.of.now) (expr_view c.args.from.now) (expr_view c.args.width.now) c.args.up c.args.bracket c.requires.sound in
-    (search rules, (c.requires.base, s.1.1))
+    (search rules, (c.requires.base, (s.1.1, omega (arith, c.requires.few, c.in_ok-of.ensures.counted, c.in_ok-from.ensures.counted))))
 
 pub bit_term-alone-requires-2 : goal.bit_term-alone-requires-2
 bit_term-alone-requires-2 t c =
@@ -69,7 +71,7 @@ bit_term-alone-requires-2 t c =
     let of = expr_view c.args.of.now in
     let other = no_choice (is_memory_name g of) (thing_number c.args.base (thing_of (look_up g (base_name of).name))) c.memory_of.result c.memory_of.ensures c.in_default.is in
     let s = sound_bit g c.args.around.place of (expr_view c.args.index.now) other c.requires.sound in
-    (search rules, (c.requires.base, s.0))
+    (search rules, (c.requires.base, (s.0, omega (arith, c.requires.few))))
 
 pub bit_term-alone-requires-3 : goal.bit_term-alone-requires-3
 bit_term-alone-requires-3 t c =
@@ -77,19 +79,19 @@ bit_term-alone-requires-3 t c =
     let of = expr_view c.args.of.now in
     let other = no_choice (is_memory_name g of) (thing_number c.args.base (thing_of (look_up g (base_name of).name))) c.memory_of.result c.memory_of.ensures c.in_default.is in
     let s = sound_bit g c.args.around.place of (expr_view c.args.index.now) other c.requires.sound in
-    (search rules, (c.requires.base, s.1))
+    (search rules, (c.requires.base, (s.1, omega (arith, c.requires.few, c.in_ok-of.ensures.counted))))
 
 pub concat_term-terms-requires : goal.concat_term-terms-requires
 concat_term-terms-requires t c =
-    (search rules, (c.requires.base, sound_concat (binding_of c.args.scope.now) c.args.around.place (exprs_of (exprs_view c.args.parts.now)) c.requires.sound))
+    (search rules, (c.requires.base, (sound_concat (binding_of c.args.scope.now) c.args.around.place (exprs_of (exprs_view c.args.parts.now)) c.requires.sound, omega (arith, c.requires.few))))
 
 pub repeat_term-alone-requires : goal.repeat_term-alone-requires
 repeat_term-alone-requires t c =
-    (search rules, (c.requires.base, (sound_repeat (binding_of c.args.scope.now) c.args.around.place (expr_view c.args.times.now) (exprs_of (exprs_view c.args.parts.now)) c.requires.sound).0))
+    (search rules, (c.requires.base, ((sound_repeat (binding_of c.args.scope.now) c.args.around.place (expr_view c.args.times.now) (exprs_of (exprs_view c.args.parts.now)) c.requires.sound).0, omega (arith, c.requires.few))))
 
 pub repeat_term-terms-requires : goal.repeat_term-terms-requires
 repeat_term-terms-requires t c =
-    (search rules, (c.requires.base, (sound_repeat (binding_of c.args.scope.now) c.args.around.place (expr_view c.args.times.now) (exprs_of (exprs_view c.args.parts.now)) c.requires.sound).1))
+    (search rules, (c.requires.base, ((sound_repeat (binding_of c.args.scope.now) c.args.around.place (expr_view c.args.times.now) (exprs_of (exprs_view c.args.parts.now)) c.requires.sound).1, omega (arith, c.requires.few, c.in_ok-times.ensures.counted))))
 
 pub terms-loop-part-preserved : goal.terms-loop-part-preserved
 terms-loop-part-preserved t c =

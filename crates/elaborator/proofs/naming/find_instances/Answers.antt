@@ -12,6 +12,7 @@ use Rattle.flat_design.specs.declared.fault.ElabKind.TheVariants.{NoModule, Recu
 use Rattle.elab_declarations.specs.Constants.{overrides_view}
 use Rattle.elab_instances.specs.InstanceView.{around_view, instantiation_view}
 use Rattle.elab_scope.specs.Tally.{after, after_faults}
+use Rattle.elaborator.proofs.RoomLemmas.{found_countable}
 use Rattle.elaborator.proofs.NamedLemmas.{none_absent, none_around, none_sound, sound_none}
 use Rattle.elaborator.proofs.naming.find_instances.Goals as goal
 
@@ -51,3 +52,11 @@ returns-in-None-clause-none c =
       c.in_ok-found.ensures.met ∙ ap (λ n. after_faults c.args.tally.now (override_faults g n m cs)) c.of-label.ensures,
       none_sound ms (instantiation_view c.args.given.now).around g x cs m found apart faulty,
     )
+
+pub invariant_of-result : goal.invariant_of-result
+invariant_of-result c =
+    let ms = modules_view c.args.modules.now.modules.now in
+    let x = c.args.item.module.now in
+    let m = module_view c.in-Some.module.now in
+    let found : module_of ms x.name ≡ Some m = ap (λ n. module_of ms n.name) (sym c.of-label.ensures) ∙ sym c.find.ensures ∙ ap (option_map (λ found. module_view found.now)) c.in-Some.is in
+    record { countable = found_countable ms x.name m c.args.modules.now.countable found }

@@ -9,6 +9,7 @@ use Rattle.elaborator.specs.Walk.{IsClean}
 use Rattle.elaborator.proofs.FreeLemmas.{met_clean}
 use Rattle.elaborator.proofs.NetLemmas.{told_clean}
 use Rattle.elaborator.proofs.ProcessLemmas.{adds_process, continuous_numbered, passes_process, still_clear}
+use Rattle.elaborator.proofs.RoomLemmas.{on_ok_always}
 use Rattle.elaborator.proofs.nets.walk_value.Goals as goal
 
 pub net_process-requires : goal.net_process-requires
@@ -19,7 +20,7 @@ net_process-requires c =
     let k = c.counts-number.result.processes in
     let known = still_clear (continuous 0 g 0 k c.args.place x v 0).met c.in_ok-check_net.ensures (c.builds.ensures.clean c.if-not-builds.false) c.requires.clear in
     let sound = sound_continuous 0 g 0 k c.args.place x v 0 known.0 known.1 in
-    record { base = c.requires.base; clear = known.0; to = sound.0; value = sound.1 }
+    record { base = c.requires.base; clear = known.0; to = sound.0; value = sound.1; few = omega (arith, c.requires.few) }
 
 pub returns-then-not-builds-clause-goes : goal.returns-then-not-builds-clause-goes
 returns-then-not-builds-clause-goes c =
@@ -51,3 +52,6 @@ returns-clause-clean c =
     let x = identifier c.args.name.now.place c.args.name.now.name in
     let ms = (continuous 0 (binding_of c.args.scope.now) 0 c.counts-number.result.processes c.args.place x (expr_view c.args.value.now) 0).met in
     told_clean c.add.result c.args.walk.now.tally c.check_net.new.tally c.add.new.self.tally ms c.in_ok-check_net.ensures c.add.ensures.tally
+
+pub returns-clause-few : goal.returns-clause-few
+returns-clause-few c = on_ok_always c.add.result (omega arith, omega (arith, c.in_ok-process.ensures.counted))

@@ -1,10 +1,11 @@
-use Rattle.std.proofs.Common.{◌≡◌, [], ◌≤◌, min, ap, drop, length, sym, subst, arith}
+use Rattle.std.proofs.Common.{◌≡◌, [], ◌≤◌, ◌^◌, min, ap, drop, length, sym, subst, arith}
 use Rattle.std.proofs.lemmas.List.{drop_all, length_push, length-map}
 use Rattle.std.proofs.lemmas.Slice.Zip.{zip_end, zip_turn}
 use Rattle.flat_design.specs.Flat.{join_ports}
 use Rattle.flat_design.specs.Scope.{binding_of}
 use Rattle.elab_ports.specs.PortView.{ports_view}
 use Rattle.elaborator.specs.Walk.{GoesBy, around_here}
+use Rattle.elaborator.proofs.JoinedNodes.{fewer_at}
 use Rattle.elaborator.proofs.KeptLemmas.{goes_kept, keeps_still, keeps_twice}
 use Rattle.elaborator.proofs.StepLemmas.{still_goes}
 use Rattle.elaborator.proofs.WalkPorts.{joined_at, no_instance, ports_next}
@@ -22,6 +23,13 @@ walk_port-requires-clause-how c =
     let ks = c.args.joined.now in
     let turn = zip_turn js ks c.loop-port.yielded c.into_iter-port-iterator.result c.loop-port.port-iterator c.next.new.self c.next.result (cc) (cc) c.loop-port.yielded_by (c.in-Some.port, c.in-Some.one) c.in-Some.is c.next.ensures.steps in
     joined_at (binding_of c.args.outside.now) js ks (length c.loop-port.yielded) c.in-Some.port.now c.in-Some.one.now turn.0 turn.1 (turn.2 c.in-Some.port.now) (turn.3 c.in-Some.one.now) c.requires.how
+
+pub walk_port-requires-clause-few : goal.walk_port-requires-clause-few
+walk_port-requires-clause-few c =
+    let js = c.args.ports.now in
+    let ks = c.args.joined.now in
+    let turn = zip_turn js ks c.loop-port.yielded c.into_iter-port-iterator.result c.loop-port.port-iterator c.next.new.self c.next.result (cc) (cc) c.loop-port.yielded_by (c.in-Some.port, c.in-Some.one) c.in-Some.is c.next.ensures.steps in
+    fewer_at (2 ^ 32) (binding_of c.args.outside.now) js (length c.loop-port.yielded) c.in-Some.port.now turn.0 (turn.2 c.in-Some.port.now) c.requires.few
 
 pub loop-port-preserved : goal.loop-port-preserved
 loop-port-preserved c =

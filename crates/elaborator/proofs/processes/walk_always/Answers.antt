@@ -1,4 +1,4 @@
-use Rattle.std.proofs.Common.{◌≡◌, ◌+◌, refl, sym, ap, ◌∙◌, subst}
+use Rattle.std.proofs.Common.{◌≡◌, ◌+◌, ◌<◌, ◌^◌, refl, sym, ap, ◌∙◌, subst, arith}
 use Rattle.verilog_tree.specs.View.{statement_view}
 use Rattle.flat_design.specs.Numbering.{lines, statement_nodes}
 use Rattle.flat_design.specs.Processes.{always}
@@ -7,6 +7,7 @@ use Rattle.elab_build.specs.Sound.{IsClear}
 use Rattle.elab_bodies.specs.Sound.{IsSoundStatement}
 use Rattle.elab_bodies.proofs.SoundOfMet.{sound_always}
 use Rattle.elaborator.proofs.ProcessLemmas.{adds_process, always_numbered, passes_process, still_clear}
+use Rattle.elaborator.proofs.RoomLemmas.{on_ok_always}
 use Rattle.elaborator.proofs.processes.walk_always.Goals as goal
 
 pub always_process-requires : goal.always_process-requires
@@ -17,7 +18,8 @@ always_process-requires c =
     let known = still_clear (always 0 g 0 k c.args.place c.args.when.now s 0 0).met c.in_ok-check_always.ensures.met (c.builds.ensures.clean c.if-not-builds.false) c.requires.clear in
     let sound = sound_always 0 g 0 k c.args.place c.args.when.now s 0 0 known.0 known.1 in
     let same : g ≡ binding_of c.check_always.new.scope = sym c.in_ok-check_always.ensures.kept in
-    record { base = c.requires.base; clear = subst IsClear same known.0; sound = subst (λ h. IsSoundStatement h s) same sound }
+    let few_nodes = subst (λ h. c.args.numbers.now.node + statement_nodes h s < 2 ^ 32) same c.requires.few.1 in
+    record { base = c.requires.base; clear = subst IsClear same known.0; sound = subst (λ h. IsSoundStatement h s) same sound; few_lines = c.requires.few.0; few_nodes = few_nodes }
 
 pub returns-then-not-builds-clause-goes : goal.returns-then-not-builds-clause-goes
 returns-then-not-builds-clause-goes c =
@@ -40,3 +42,8 @@ returns-clause-goes c =
     (c.in_ok-process.ensures.built k c.args.place ∙ ap (λ h. (always c.args.ground.base h numbers.instance k c.args.place w s numbers.line numbers.node).process) kept)
     (refl, c.in_ok-process.ensures.lines, c.in_ok-process.ensures.counted ∙ ap (λ h. numbers.node + statement_nodes h s) kept)
     c.add.ensures.tally c.add.ensures.memories c.add.ensures.drafted c.add.ensures.draft
+
+pub returns-clause-few : goal.returns-clause-few
+returns-clause-few c =
+    let counted = c.in_ok-process.ensures.counted ∙ ap (λ h. c.args.numbers.now.node + statement_nodes h (statement_view c.args.body.now)) c.in_ok-check_always.ensures.kept in
+    on_ok_always c.add.result (omega (arith, c.in_ok-process.ensures.lines), omega (arith, counted))

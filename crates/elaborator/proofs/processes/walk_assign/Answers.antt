@@ -5,6 +5,7 @@ use Rattle.flat_design.specs.Processes.{continuous}
 use Rattle.flat_design.specs.Scope.{binding_of}
 use Rattle.elab_bodies.proofs.SoundOfMet.{sound_continuous}
 use Rattle.elaborator.proofs.ProcessLemmas.{adds_process, continuous_numbered, passes_process, still_clear}
+use Rattle.elaborator.proofs.RoomLemmas.{on_ok_always}
 use Rattle.elaborator.proofs.processes.walk_assign.Goals as goal
 
 pub continuous_process-requires : goal.continuous_process-requires
@@ -15,18 +16,18 @@ continuous_process-requires c =
     let k = c.counts-number.result.processes in
     let known = still_clear (continuous 0 g 0 k c.args.place x v 0).met c.in_ok-check_continuous.ensures (c.builds.ensures.clean c.if-not-builds.false) c.requires.clear in
     let sound = sound_continuous 0 g 0 k c.args.place x v 0 known.0 known.1 in
-    record { base = c.requires.base; clear = known.0; to = sound.0; value = sound.1 }
+    record { base = c.requires.base; clear = known.0; to = sound.0; value = sound.1; few = c.requires.few }
 
-pub returns-then-not-builds : goal.returns-then-not-builds
-returns-then-not-builds c =
+pub returns-then-not-builds-clause-goes : goal.returns-then-not-builds-clause-goes
+returns-then-not-builds-clause-goes c =
     let g = binding_of c.args.scope.now in
     let x = expr_view c.args.target.now in
     let v = expr_view c.args.value.now in
     passes_process c.check_continuous.new.tally c.counts-number.result 0 (nodes g x + nodes g v) (λ b i k l n. continuous b g i k c.args.place x v n) (continuous_numbered g c.args.place x v)
     c.counts-number.ensures.counts c.in_ok-check_continuous.ensures (c.builds.ensures.not c.if-not-builds.true)
 
-pub returns : goal.returns
-returns c =
+pub returns-clause-goes : goal.returns-clause-goes
+returns-clause-goes c =
     let g = binding_of c.args.scope.now in
     let x = expr_view c.args.target.now in
     let v = expr_view c.args.value.now in
@@ -35,3 +36,6 @@ returns c =
     (c.in_ok-process.ensures.built c.counts-number.result.processes c.args.place)
     (refl, omega arith, omega (arith, c.in_ok-process.ensures.counted))
     c.add.ensures.tally c.add.ensures.memories c.add.ensures.drafted c.add.ensures.draft
+
+pub returns-clause-few : goal.returns-clause-few
+returns-clause-few c = on_ok_always c.add.result (omega arith, omega (arith, c.in_ok-process.ensures.counted))

@@ -14,7 +14,7 @@ joined_input_process-requires c =
     let e = expr_view c.args.value.now in
     let k = c.counts-number.result.processes in
     let known = still_clear (joined_input 0 g 0 k c.args.place label c.args.port e).met c.in_ok-check_joined_input.ensures (c.builds.ensures.clean c.if-not-builds.false) c.requires.clear in
-    record { base = c.requires.base; port = c.requires.port; sound = sound_joined_input 0 g 0 k c.args.place label c.args.port e known.0 known.1 }
+    record { base = c.requires.base; port = c.requires.port; sound = sound_joined_input 0 g 0 k c.args.place label c.args.port e known.0 known.1; few = c.requires.few }
 
 pub returns-then-not-builds : goal.returns-then-not-builds
 returns-then-not-builds c =

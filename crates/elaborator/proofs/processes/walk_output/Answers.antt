@@ -12,7 +12,7 @@ joined_output_process-requires c =
     let e = expr_view c.args.value.now in
     let k = c.counts-number.result.processes in
     let known = still_clear (joined_output 0 g 0 k c.args.place c.args.port e).met c.in_ok-check_joined_output.ensures (c.builds.ensures.clean c.if-not-builds.false) c.requires.clear in
-    record { base = c.requires.base; clear = known.0; port = c.requires.port; sound = sound_joined_output 0 g 0 k c.args.place c.args.port e known.0 known.1 }
+    record { base = c.requires.base; clear = known.0; port = c.requires.port; sound = sound_joined_output 0 g 0 k c.args.place c.args.port e known.0 known.1; few = c.requires.few }
 
 pub returns-then-not-builds : goal.returns-then-not-builds
 returns-then-not-builds c =

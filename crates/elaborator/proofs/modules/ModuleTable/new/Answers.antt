@@ -28,7 +28,10 @@ pub invariant_of-result : goal.invariant_of-result
 invariant_of-result c =
     let over : modules_view (drop c.loop-place.place c.args.modules.now) ≡ [] = grind (arith, common_steps) in
     let f = bound_to c.loop-place.places in
-    record { firsts = sym (or_nothing f c.loop-place.place) ∙ ap (λ ms. or_bound f (first_places c.loop-place.place ms)) (sym over) ∙ c.loop-place.invariant.places }
+    record {
+      firsts = sym (or_nothing f c.loop-place.place) ∙ ap (λ ms. or_bound f (first_places c.loop-place.place ms)) (sym over) ∙ c.loop-place.invariant.places;
+      countable = c.requires;
+    }
 
 pub returns-clause-met : goal.returns-clause-met
 returns-clause-met c =

@@ -31,9 +31,9 @@ invariant_of-self-2 c =
       λ text.
           let before : place_in c.self.inside.places text ≡ place_of c.args.self.now text = c.self.invariant.1 text ∙ ap (λ (codes : List Code). place_of codes text) c.self.view_is in
           c.in_ok-set.ensures.set text
-          ∙ ap (λ (found : Option ℕ). cond (bytes_eq text c.args.bytes.now) (Some c.in_ok-place.place) found) before
-          ∙ ap (λ (count : ℕ). cond (bytes_eq text c.args.bytes.now) (Some count) (place_of c.args.self.now text)) c.in_ok-place.ensures
-          ∙ sym (place_of-push c.args.self.now (with_text c.args.bytes.now c.args.code) c.requires text)
+          ∙ ap (λ (found : Option ℕ). cond (bytes_eq text c.args.bytes.now) (Some c.next_number-place.result) found) before
+          ∙ ap (λ (count : ℕ). cond (bytes_eq text c.args.bytes.now) (Some count) (place_of c.args.self.now text)) c.next_number-place.ensures
+          ∙ sym (place_of-push c.args.self.now (with_text c.args.bytes.now c.args.code) c.requires.absent text)
           ∙ ap (λ (codes : List Code). place_of codes text) (sym (all_are at)),
     )
 

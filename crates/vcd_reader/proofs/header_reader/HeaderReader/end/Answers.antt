@@ -1,6 +1,13 @@
+use Rattle.std.proofs.Common.{length}
 use Rattle.std.proofs.lemmas.Result.{err_from_is_err_and}
+use Rattle.vcd_reader.proofs.FewCodes.{few_codes}
 use Rattle.vcd_reader.proofs.HeaderStanding.{end_kept, end_fault, end_cut_short}
 use Rattle.vcd_reader.proofs.header_reader.HeaderReader.end.Goals as goal
+
+pub read_last-requires-clause-few : goal.read_last-requires-clause-few
+read_last-requires-clause-few c =
+    let reader = c.args.self.now in
+    few_codes reader.progress (length reader.sections.declared.codes) reader.at c.requires reader.few reader.within
 
 pub returns-in_err-is_last-clause-fault : goal.returns-in_err-is_last-clause-fault
 returns-in_err-is_last-clause-fault c =

@@ -3,7 +3,7 @@ use Rattle.std.proofs.lemmas.Result.{err_from_is_err_and}
 use Rattle.std.proofs.lemmas.List.{map-append}
 use Rattle.verilog_lexer.specs.ReadingView.{reading_view, passage_view}
 use Rattle.verilog_lexer.specs.Stand.{stand_of}
-use Rattle.verilog_lexer.proofs.Stands.{text_ends, all_ends, end_faults, none_left}
+use Rattle.verilog_lexer.proofs.Stands.{text_ends, all_ends, last_room, end_faults, none_left}
 use Rattle.verilog_lexer.proofs.reader.Reader.end_text.Goals as goal
 
 pub returns-in_err-end_text-clause-fault : goal.returns-in_err-end_text-clause-fault
@@ -19,3 +19,7 @@ returns-in-Some-clause-proceeds c =
 pub returns-in-None-clause-ends : goal.returns-in-None-clause-ends
 returns-in-None-clause-ends c =
     all_ends c.args.self.now.sources.now (stand_of c.args.self.now) (reading_view c.end_text.new.self) c.requires.empty (ap (map passage_view) (none_left c.args.self.now.waiting.items (λ some. grind (arith, c.in-None.ensures.variant)))) (rw c.take-ending.ensures.value at c.in_ok-end_text.ensures.ok)
+
+pub returns-in-None-clause-room : goal.returns-in-None-clause-room
+returns-in-None-clause-room c =
+    last_room c.args.self.now.sources.now (stand_of c.args.self.now) (reading_view c.end_text.new.self) c.requires.empty (rw c.take-ending.ensures.value at c.in_ok-end_text.ensures.ok)

@@ -1,6 +1,0 @@
-use Rattle.std.proofs.Common.{append_assoc, rules}
-use Rattle.covered_cli.proofs.Lines.{WarnsLine-is}
-use Rattle.covered_cli.proofs.source_message.warn_parts.Goals as goal
-
-pub returns-clause-line : goal.returns-clause-line
-returns-clause-line g c = WarnsLine-is _ _ (g.H.Host.outside c.args.host.now) (g.H.Host.outside c.warn_pieces.new.host) (search (rules, append_assoc, c.as_bytes.ensures.value, c.as_bytes-2.ensures.value, c.as_bytes-3.ensures.value, c.as_bytes-4.ensures.value)) c.warn_pieces.ensures.line
