@@ -1,4 +1,5 @@
 pub mod Texts
+pub mod Quotes
 pub mod Numbers
 pub mod DefineTexts
 pub mod MacroLemmas

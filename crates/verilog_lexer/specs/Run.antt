@@ -1,6 +1,6 @@
 -- Runs of bytes at the front of a text (IEEE 1364-2001 clause 2).
 -- Bytes are written as numbers: 10 line feed, 32 space, 34 double quote, 92 backslash; 9 to 13 are white space too.
-use Rattle.std.specs.Prelude.{ℕ, ◌+◌, nat_le, Bool, not, ◌&&◌, ◌||◌, ◌==◌, List, [], ◌∷◌, Option, None, Some, if◌then◌else◌, slice_index}
+use Rattle.std.specs.Prelude.{ℕ, zero, suc, ◌+◌, nat_le, Bool, true, false, not, ◌&&◌, ◌||◌, ◌==◌, List, [], ◌∷◌, Option, None, Some, is_some, if◌then◌else◌, slice_index}
 use Rattle.std.specs.List.{prefix_len}
 
 -- space, tab, line feed, vertical tab, form feed, carriage return
@@ -40,3 +40,9 @@ through_quote passed taken (byte ∷ others) =
     if byte == 10 then None
     else if closes byte taken then Some (passed + 1)
     else through_quote (passed + 1) (takes_next byte taken) others
+
+-- no quote among so many bytes at the front is closed on its line
+abbrev pub none_closes : (bytes : ℕ) → List ℕ → Bool
+none_closes zero text = true
+none_closes (suc bytes) [] = true
+none_closes (suc bytes) (byte ∷ others) = not (byte == 34 && is_some (through_quote 0 false others)) && none_closes bytes others

@@ -42,6 +42,7 @@ fn looked_up<'a>(
             text,
             spot: spot.within_macro(),
             ending: None,
+            unclosed: 0,
         }),
         Entry::File(name) => included(alloc, sources, reading, spot, name),
     }
@@ -68,5 +69,6 @@ fn included<'a>(
         text: source.bytes(),
         spot: spot.of_file(place as u32 + 1),
         ending: Some(reading.begin_file()),
+        unclosed: 0,
     })
 }

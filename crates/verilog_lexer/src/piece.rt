@@ -1,13 +1,15 @@
-ghost use Rattle.std.specs.Prelude.{◌≡◌, ◌+◌, ◌-◌, ◌^◌, ◌<◌, ◌≤◌, ◌&&◌, nat_le, length};
+ghost use Rattle.std.specs.Prelude.{◌≡◌, ◌+◌, ◌-◌, ◌^◌, ◌<◌, ◌≤◌, ◌&&◌, nat_le, length, slice_index};
 ghost use Rattle.std.specs.List.{list_all};
 ghost use Rattle.verilog_lexer.specs.Run.{run};
 ghost use Rattle.verilog_lexer.specs.Piece.{piece_length, word_piece, quoted_piece, based_piece, system_piece, operator_piece, comment_piece, slash_piece, parenthesis_piece, name_in, name_behind, name_end, define_piece, is_file_name, file_piece, include_piece, condition_piece, other_piece, directive_word, accent_piece, mark_piece, read_piece, is_plain, left_out_slash, left_out_quote, left_out_accent, left_out_piece, token_of, fault, is_macro_name};
 ghost use Rattle.verilog_lexer.specs.PieceView.{piece_view, piece_option_view};
+ghost use Rattle.verilog_lexer.specs.ReadingView.{passage_view};
 
 use crate::based::{base_at, based_length, decimal_length};
 use crate::define_text::define_text_length;
 use crate::directive::{Directive, directive_of, is_use};
 use crate::operator::operator_length;
+use crate::passage::Passage;
 use crate::run::{
     blank_length, byte_at, front, is_white, line_length, name_length, tail, through_pair,
     through_quote, white_length,
@@ -109,14 +111,16 @@ pub(crate) fn read_piece(text: &[u8]) -> Piece<'_>
 
 /// What is at the front of a text that a condition leaves out: only directives of conditions are read there.
 #[tactic(auto, unfolding(crate::specs::Piece::left_out_piece))]
-pub(crate) fn left_out_piece(text: &[u8]) -> Piece<'_>
-    ensures { piece_view result ≡ left_out_piece text.now }
+pub(crate) fn left_out_piece<'a>(passage: &mut Passage<'a>) -> Piece<'a>
+    ensures value { piece_view result ≡ left_out_piece passage.old.text.now }
+    ensures same { passage_view passage.new ≡ passage_view passage.old }
 {
+    let text = passage.text;
     let first = byte_at(text, 0);
     if first == b'/' {
         left_out_slash(text)
     } else if first == b'"' {
-        left_out_quote(text)
+        left_out_quote(passage)
     } else if first == b'`' {
         left_out_accent(text)
     } else {
@@ -501,10 +505,12 @@ fn left_out_slash(text: &[u8]) -> Piece<'_>
 }
 
 /// A string, or a quote alone, in a part that is left out.
-fn left_out_quote(text: &[u8]) -> Piece<'_>
-    ensures { piece_view result ≡ left_out_quote text.now }
+fn left_out_quote<'a>(passage: &mut Passage<'a>) -> Piece<'a>
+    requires { slice_index passage.old.text.now 0 ≡ 34 }
+    ensures value { piece_view result ≡ left_out_quote passage.old.text.now }
+    ensures same { passage_view passage.new ≡ passage_view passage.old }
 {
-    match through_quote(tail(text, 1)) {
+    match passage.through_quote() {
         Some(length) => Piece::Blank { length: length + 1 },
         None => Piece::Blank { length: 1 },
     }

@@ -112,6 +112,7 @@ impl<'a> Reader<'a> {
                 inside: false,
             },
             ending: Some(Conditions::new(self.alloc)),
+            unclosed: 0,
         };
         self.read_all(steps)
     }
@@ -191,8 +192,7 @@ impl<'a> Reader<'a> {
     {
         let spot = self.passage.spot;
         let text = self.passage.text;
-        let in_macro = self.passage.is_macro_text();
-        let piece = self.reading.front_piece(in_macro, text);
+        let piece = self.reading.front_piece(&mut self.passage);
         let entry = self.reading.obey(spot, text, piece)?;
         self.passage.advance(piece.bytes());
         match entry {

@@ -1,4 +1,4 @@
-ghost use Rattle.std.specs.Prelude.{◌≡◌, ℕ, [], Some, Ok, Err, IfOk, OnOk, IfErr, length};
+ghost use Rattle.std.specs.Prelude.{◌≡◌, ℕ, [], Some, Ok, Err, IfOk, OnOk, IfErr, length, is_none};
 ghost use Rattle.std.specs.Option.{option_map};
 ghost use Rattle.verilog_lexer.specs.Answer.{IsFault};
 ghost use Rattle.verilog_lexer.specs.Reading.{is_continuation};
@@ -65,13 +65,15 @@ impl<'a> Reading<'a> {
     }
 
     /// The piece at the front of a text.
-    pub(crate) fn front_piece(&self, in_macro: bool, text: &'a [u8]) -> Piece<'a>
-        ensures { piece_view result ≡ front_piece in_macro (reading_view self.now).conditions text.now }
+    pub(crate) fn front_piece(&self, passage: &mut Passage<'a>) -> Piece<'a>
+        ensures value { piece_view result ≡ front_piece (is_none (passage_view passage.old).ending) (reading_view self.now).conditions passage.old.text.now }
+        ensures same { passage_view passage.new ≡ passage_view passage.old }
     {
-        if in_macro && is_continuation(text) {
+        let text = passage.text;
+        if passage.is_macro_text() && is_continuation(text) {
             Piece::Blank { length: 2 }
         } else if is_left_out(&self.conditions) {
-            left_out_piece(text)
+            left_out_piece(passage)
         } else {
             read_piece(text)
         }

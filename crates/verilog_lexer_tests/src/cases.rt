@@ -127,6 +127,10 @@ pub(crate) const CASES: &[Case] = &[
     Case { source: "`ifdef NO\n// `endif\n/* `endif */\nx\n`endif\ny", kinds: "I", texts: "y" },
     // clause 19.4: directives on one line; Icarus gives x y
     Case { source: "`ifdef A `else x `endif y", kinds: "II", texts: "x`y" },
+    // a quote that is not closed on its line is left out by itself, and the directive after it is read
+    Case { source: "`ifdef A\n\"\\\"\\\"\\\" `endif x\ny", kinds: "II", texts: "x`y" },
+    // after such a line a string is left out with the directive in it
+    Case { source: "`ifdef A\n\"\\\"\\\"\n\"`endif\" `endif x\ny", kinds: "II", texts: "x`y" },
     // clause 19.3.1: a macro without text; Icarus gives a b;
     Case { source: "`define E\na `E b;", kinds: "IIO", texts: "a`b`;" },
     // clause 19.3.1: a text may define another macro; Icarus gives 5;

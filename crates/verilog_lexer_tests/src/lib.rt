@@ -8,6 +8,8 @@ mod expansions;
 #[cfg(test)]
 mod files;
 #[cfg(test)]
+mod left_out;
+#[cfg(test)]
 mod limits;
 #[cfg(test)]
 mod sources;
