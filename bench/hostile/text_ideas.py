@@ -263,6 +263,17 @@ def loops_with_long_headers(n):
                   " for (j = 0; j < 64" + " + 0" * n + "; j = j + 1) ; end")
 
 
+@idea(4, 8, 16, 512)
+def terms_in_two_loops(n):
+    return module("reg y; integer i, j; always @* for (i = 0; i < 1000; i = i + 1) for (j = 0; j < 1000; j = j + 1) y = a" + " ^ a" * n + ";")
+
+
+@idea(8, 16, 32, 2048)
+def long_headers_in_two_loops(n):
+    return module("reg y; integer i, j; always @* begin y = a; for (i = 0; i < 1000; i = i + 1)"
+                  " for (j = 0; j < 1000" + " + 0" * n + "; j = j + 1) ; end")
+
+
 @idea(64, 256, 1024)
 def empty_statements(n):
     return module("reg y; always @* begin y = a; " + ";" * n + " end")

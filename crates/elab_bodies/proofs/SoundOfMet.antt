@@ -6,11 +6,11 @@ use Rattle.four_state.specs.Vector.{Vector}
 use Rattle.verilog_tree.specs.declared.item.Named.{Named}
 use Rattle.verilog_tree.specs.declared.item.When.{When}
 use Rattle.verilog_tree.specs.Tree.{Expr, Exprs, no_exprs, an_expr, Statement, sequential_block, if_statement, case_statement, for_loop, assignment, system_task, null_statement, Statements, no_statements, a_statement, CaseItems, no_items, case_item}
-use Rattle.flat_design.specs.Bodies.{Met, met_fault, met_process, met_writing, met_faults, met_writings, met_turns, met, all_met, items_met, in_turn}
+use Rattle.flat_design.specs.Bodies.{Met, met_fault, met_process, met_text, met_writing, met_faults, met_writings, met_turns, met, all_met, items_met, in_turn}
 use Rattle.flat_design.specs.Expressions.{faults, all_faults}
 use Rattle.flat_design.specs.Fault.{Fault, none}
 use Rattle.flat_design.specs.Identifiers.{base_name}
-use Rattle.flat_design.specs.Loops.{turn_faults, turns}
+use Rattle.flat_design.specs.Loops.{turn_faults, turns, turns_size}
 use Rattle.flat_design.specs.Processes.{continuous, always, joined_input, joined_output, self_faults, when_faults, mixed_faults, writings, incomplete_faults, mode_of, whole_writing}
 use Rattle.flat_design.specs.Scope.{Scope}
 use Rattle.flat_design.specs.Targets.{target_faults}
@@ -64,7 +64,7 @@ mutual
       let both = free_both (met_faults (faults g e)) (items_met g mode k is) free in
       (clear_sound g clear e (free_faults (faults g e) both.0), items_sound g mode k is clear both.1)
   sound_of_met g mode k (for_loop p h s) clear free =
-      let both = free_both (met_faults (turn_faults g h)) (met_turns (turns g h) (λ v. met (in_turn h v g) mode k s)) free in
+      let both = free_both (met_faults (turn_faults g h)) (met_text h.place (turns_size g h) ∷ met_turns (turns g h) (λ v. met (in_turn h v g) mode k s)) free in
       let each : (v : Vector) → IsFree (met (in_turn h v g) mode k s) → IsSoundStatement (in_turn h v g) s = λ v f. sound_of_met (in_turn h v g) mode k s (clear_turn (base_name h.name).name v g clear) f in
       (free_faults (turn_faults g h) both.0, free_turns (turns g h) (λ v. met (in_turn h v g) mode k s) (λ v. IsSoundStatement (in_turn h v g) s) each both.1)
   sound_of_met g mode k (assignment p x blocking v) clear free =

@@ -1,16 +1,18 @@
 //! The turns of loops, and the faults of their headers (IEEE 1364-2001 clause 9.6).
 
-ghost use Rattle.std.specs.Prelude.{◌≡◌, ◌&&◌, not, IfOk, IfSome, OnOk};
+ghost use Rattle.std.specs.Prelude.{◌≡◌, ◌&&◌, ◌*◌, ◌∷◌, ◌++◌, [], not, IfOk, IfSome, OnOk};
 ghost use Rattle.elab_const.specs.Calls.{told};
 ghost use Rattle.elab_const.specs.Loops.{turns_answer};
 ghost use Rattle.elab_scope.specs.Entries.{IsEntry};
-ghost use Rattle.elab_scope.specs.Tally.{after_faults};
+ghost use Rattle.elab_scope.specs.Tally.{after_all, after_faults};
 ghost use Rattle.elab_checks.specs.Turns.{outer_faults, inner_faults, outer_names_faulty, inner_names_faulty, is_sound, restored};
 ghost use Rattle.elab_scope.specs.View.{fault_view};
+ghost use Rattle.flat_design.specs.Bodies.{met_faults, met_text};
 ghost use Rattle.flat_design.specs.Fault.{answer_faults, fault_if, none};
 ghost use Rattle.flat_design.specs.Identifiers.{base_name as spec_base_name};
 ghost use Rattle.flat_design.specs.Loops as spec;
 ghost use Rattle.flat_design.specs.Scope.{binding_of, names};
+ghost use Rattle.tree_sizes.specs.Sizes.{header_size};
 ghost use Rattle.verilog_tree.specs.View.{expr_view, loop_view};
 
 use crate::expressions::check;
@@ -24,7 +26,8 @@ use four_state::{Bit, Four};
 use std::alloc::Global;
 use verilog_tree::{Expr, For};
 
-/// The values of a loop's variable, one for each turn. A loop whose header has a fault has no turns.
+/// The values of a loop's variable, one for each turn. A loop whose header has a fault has no turns. The text of the header is
+/// counted as often as it is gone through.
 pub fn turns<'a>(
     alloc: Global,
     scope: &mut Scope,
@@ -32,10 +35,11 @@ pub fn turns<'a>(
     tally: &mut Tally<'a>,
 ) -> Result<Turns, NoMemory>
     ensures values { IfOk result (λ values. values ≡ spec.turns (binding_of scope.old) (loop_view header.now).0) }
-    ensures met { OnOk result (tally.new ≡ after_faults tally.old (spec.turn_faults (binding_of scope.old) (loop_view header.now).0)) }
+    ensures met { OnOk result (tally.new ≡ after_all tally.old (met_faults (spec.turn_faults (binding_of scope.old) (loop_view header.now).0) ++ met_text (loop_view header.now).0.place (spec.turns_size (binding_of scope.old) (loop_view header.now).0) ∷ [])) }
     ensures kept { OnOk result (binding_of scope.new ≡ binding_of scope.old) }
 {
     if !check_header(alloc, scope, header, tally)? {
+        tally.turns(header, 1);
         return Ok(Turns::new(alloc));
     }
     found_turns(alloc, scope, header, tally)
@@ -69,7 +73,7 @@ fn check_header<'a>(
     Ok(outside & inside)
 }
 
-/// The turns of a loop whose names have no fault, or the fault of a constant.
+/// The turns of a loop whose names have no fault, or the fault of a constant. The text of the header is counted for each turn.
 fn found_turns<'a>(
     alloc: Global,
     scope: &Scope,
@@ -77,13 +81,17 @@ fn found_turns<'a>(
     tally: &mut Tally<'a>,
 ) -> Result<Turns, NoMemory>
     ensures values { IfOk result (λ values. values ≡ spec.values_of (told (turns_answer (names (binding_of scope.now)) (loop_view header.now).0))) }
-    ensures met { OnOk result (tally.new ≡ after_faults tally.old (answer_faults (told (turns_answer (names (binding_of scope.now)) (loop_view header.now).0)))) }
+    ensures met { OnOk result (tally.new ≡ after_all tally.old (met_faults (answer_faults (told (turns_answer (names (binding_of scope.now)) (loop_view header.now).0))) ++ met_text (loop_view header.now).0.place (header_size (loop_view header.now).0 * spec.times (told (turns_answer (names (binding_of scope.now)) (loop_view header.now).0))) ∷ [])) }
 {
     match elab_const::turns(alloc, header, scope.values()) {
-        Ok(values) => Ok(values),
+        Ok(values) => {
+            tally.turns(header, 1 + values.as_slice().len());
+            Ok(values)
+        }
         Err(ConstFault::NoMemory) => Err(NoMemory),
         Err(ConstFault::At { kind, place }) => {
             tally.fault(FoundFault::Constant(kind, place));
+            tally.turns(header, 1_025);
             Ok(Turns::new(alloc))
         }
     }

@@ -1,9 +1,9 @@
 //! What is found in statements: faults, what the limits count, and writings (IEEE 1364-2001 clause 9).
 
-ghost use Rattle.std.specs.Prelude.{◌≡◌, ◌++◌, OnOk};
+ghost use Rattle.std.specs.Prelude.{◌≡◌, ◌∷◌, ◌++◌, OnOk};
 ghost use Rattle.elab_scope.specs.Tally.{after_all};
 ghost use Rattle.flat_design.specs.Bodies as spec;
-ghost use Rattle.flat_design.specs.Bodies.{in_turn, met_faults, met_turns, met_writings};
+ghost use Rattle.flat_design.specs.Bodies.{in_turn, met_faults, met_text, met_turns, met_writings};
 ghost use Rattle.flat_design.specs.Expressions.{faults};
 ghost use Rattle.flat_design.specs.Loops as loops;
 ghost use Rattle.flat_design.specs.Scope.{binding_of};
@@ -43,6 +43,7 @@ pub fn check_statement<'a>(
             check_statements(alloc, scope, mode, process, parts, tally)
         }
         StatementForm::If { test, yes, no } => {
+            tally.expression(statement.place, test);
             check(scope, test, tally);
             check_statement(alloc, scope, mode, process, yes, tally)?;
             match no {
@@ -51,6 +52,7 @@ pub fn check_statement<'a>(
             }
         }
         StatementForm::Case { on, arms, .. } => {
+            tally.case(statement.place, on, arms);
             check(scope, on, tally);
             check_arms(alloc, scope, mode, process, arms, tally)
         }
@@ -60,6 +62,7 @@ pub fn check_statement<'a>(
             blocking,
             value,
         } => {
+            tally.assignment(statement.place, target, value);
             let writer = Writer {
                 blocking: *blocking,
                 continuous: false,
@@ -120,7 +123,7 @@ fn check_turns<'a>(
     header: &'a For,
     tally: &mut Tally<'a>,
 ) -> Result<(), NoMemory>
-    ensures met { OnOk result (tally.new ≡ after_all tally.old (met_faults (loops.turn_faults (binding_of scope.old) (loop_view header.now).0) ++ met_turns (loops.turns (binding_of scope.old) (loop_view header.now).0) (λ v. spec.met (in_turn (loop_view header.now).0 v (binding_of scope.old)) mode process (loop_view header.now).1))) }
+    ensures met { OnOk result (tally.new ≡ after_all tally.old (met_faults (loops.turn_faults (binding_of scope.old) (loop_view header.now).0) ++ met_text (loop_view header.now).0.place (loops.turns_size (binding_of scope.old) (loop_view header.now).0) ∷ met_turns (loops.turns (binding_of scope.old) (loop_view header.now).0) (λ v. spec.met (in_turn (loop_view header.now).0 v (binding_of scope.old)) mode process (loop_view header.now).1))) }
     ensures kept { OnOk result (binding_of scope.new ≡ binding_of scope.old) }
 {
     let values = turns(alloc, scope, header, tally)?;

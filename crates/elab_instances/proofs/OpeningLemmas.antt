@@ -6,7 +6,8 @@ use Rattle.std.proofs.lemmas.Bool.Decides.{nat_tests}
 use Rattle.cov_host.specs.declared.place.Place.{Place}
 use Rattle.design_model.specs.Lawful.{span}
 use Rattle.design_model.specs.declared.design.Range.{Range}
-use Rattle.flat_design.specs.Bodies.{Met, met_fault, met_signal, met_words, met_process, met_instance, met_statement, met_writing, met_faults}
+use Rattle.flat_design.specs.Bodies.{Met, met_fault, met_signal, met_words, met_process, met_instance, met_statement, met_text, met_writing, met_faults}
+use Rattle.tree_sizes.specs.Sizes.{module_size}
 use Rattle.verilog_tree.specs.Tree.{Module}
 use Rattle.flat_design.specs.Declarations.{Declaration, Override, all_declarations, constants_faults, declarations, direction_faults, listed_twice, twice_faults}
 use Rattle.flat_design.specs.Fault.{Fault, limit_fault}
@@ -14,7 +15,7 @@ use Rattle.flat_design.specs.Identifiers.{params_of}
 use Rattle.flat_design.specs.Instances.{Instantiation, constant_scope, declaration_faults, declared, declared_met, dotted, opening_met, other_names, path_faults, range_faults}
 use Rattle.flat_design.specs.Scope.{Scope}
 use Rattle.flat_design.specs.declared.counts.Counts.{Counts}
-use Rattle.flat_design.specs.declared.fault.DesignLimit.TheVariants.{Signals, Processes, Words, Instances, Statements}
+use Rattle.flat_design.specs.declared.fault.DesignLimit.TheVariants.{Signals, Processes, Words, Instances, Statements, Text}
 use Rattle.elab_const.proofs.ScopeLemmas.{fun_ext}
 use Rattle.elab_scope.specs.Tally.{Tally, after, after_all, after_faults, with_counts, with_fault, with_met}
 use Rattle.elab_scope.proofs.TallyLemmas.{after_all-append, after_ended, after_faults-append, after_open}
@@ -61,6 +62,7 @@ module _ (n : Numbers) where
   kept_met (met_process p) t h = kept_count (t.counts.processes == 65536) (limit_fault Processes p) (record (t.counts) { processes = t.counts.processes + 1 }) t refl refl h
   kept_met (met_instance p) t h = kept_count (t.counts.instances == 65536) (limit_fault Instances p) (record (t.counts) { instances = t.counts.instances + 1 }) t refl refl h
   kept_met (met_statement p) t h = kept_count (t.counts.statements == 1048576) (limit_fault Statements p) (record (t.counts) { statements = t.counts.statements + 1 }) t refl refl h
+  kept_met (met_text p k) t h = kept_count (nat_lt 134217728 (t.counts.text + k)) (limit_fault Text p) (record (t.counts) { text = t.counts.text + k }) t refl refl h
   kept_met (met_writing w) t h = h
 
   -- whatever is met, numbers stay counted
@@ -132,7 +134,7 @@ all_met_by_role i ds = ap (λ f. flat_map f ds) (fun_ext (met_by_role i))
 
 -- what is met up to the declared names
 abbrev opening_front : Instantiation → List Met
-opening_front i = met_instance i.item ∷ met_faults (path_faults i.item i.path ++ declaration_faults i.overrides i.of_module)
+opening_front i = met_instance i.item ∷ met_text i.item (module_size i.of_module) ∷ met_faults (path_faults i.item i.path ++ declaration_faults i.overrides i.of_module)
 
 -- the numbers behind those of an instance are counted once it is opened
 pub opening_counted : (i : Instantiation) (t : Tally) (n : Numbers) → AreCounted t n → AreCounted (after_all t (opening_met i)) (numbers_after i n)
@@ -155,13 +157,13 @@ faults_in_turn t ps as' bs cs ds es =
 -- what is met while an instance is opened, call by call
 pub opened_met : (i : Instantiation) (os : List Override) (g : Scope) (ds : List Declaration) (l : Linked) (t first second third last : Tally) →
     os ≡ i.overrides → g ≡ constant_scope i.overrides i.of_module → ds ≡ declared i.overrides i.of_module → l ≡ linked_of i →
-    first ≡ after_all t (met_instance i.item ∷ met_faults (path_faults i.item i.path)) →
+    first ≡ after_all t (met_instance i.item ∷ met_text i.item (module_size i.of_module) ∷ met_faults (path_faults i.item i.path)) →
     second ≡ after_faults first (constants_faults (other_names i.of_module) os [] (params_of i.of_module)) →
     third ≡ after_faults second (range_faults g i.of_module ++ twice_faults [] (all_declarations g i.of_module) ++ listed_twice [] i.of_module.ports ++ direction_faults (declarations g i.of_module) i.of_module.ports) →
     last ≡ after_all third (flat_map (λ d. role_met (role_of l d) i d) ds) → last ≡ after_all t (opening_met i)
 opened_met i os g ds l t first second third last given scope names links one two three four =
     let m : Module = i.of_module in
-    let start : Tally = after t (met_instance i.item) in
+    let start : Tally = after (after t (met_instance i.item)) (met_text i.item (module_size m)) in
     let path : List Fault = path_faults i.item i.path in
     let own : List Fault = constants_faults (other_names m) i.overrides [] (params_of m) in
     let front : Tally = after_faults (after_faults start path) own in

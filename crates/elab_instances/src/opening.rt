@@ -10,10 +10,11 @@ ghost use Rattle.elab_instances.specs.Linked.{linked_of, links_view};
 ghost use Rattle.elab_instances.specs.Opening.{AreCounted};
 ghost use Rattle.elab_instances.specs.Roles.{IsFewWords, role_met, role_of};
 ghost use Rattle.elab_scope.specs.Tally.{after_all};
-ghost use Rattle.flat_design.specs.Bodies.{met_faults, met_instance};
+ghost use Rattle.flat_design.specs.Bodies.{met_faults, met_instance, met_text};
 ghost use Rattle.flat_design.specs.Fault.{fault_if, limit_fault};
 ghost use Rattle.flat_design.specs.Instances as of;
 ghost use Rattle.flat_design.specs.declared.fault.DesignLimit.TheVariants.{Path};
+ghost use Rattle.tree_sizes.specs.Sizes.{module_size};
 ghost use Rattle.verilog_tree.specs.View.{module_view};
 
 use crate::entries::{Inside, enter};
@@ -85,11 +86,12 @@ impl<'b, 'a> Opened<'b, 'a> {
     }
 }
 
-/// An instance, and whether its path is too long.
+/// An instance, the text of its module, and whether its path is too long.
 fn meet_instance(given: &Instantiation, tally: &mut Tally)
-    ensures { tally.new ≡ after_all tally.old (met_instance given.now.item ∷ met_faults (of.path_faults given.now.item given.now.path)) }
+    ensures { tally.new ≡ after_all tally.old (met_instance given.now.item ∷ met_text given.now.item (module_size (module_view given.now.module.now)) ∷ met_faults (of.path_faults given.now.item given.now.path)) }
 {
     tally.instance(given.item);
+    tally.module(given.item, given.module);
     meet_path(given.path.len() > 256, given.item, tally);
 }
 

@@ -4,7 +4,7 @@ use Rattle.std.specs.List.{fold}
 use Rattle.std.proofs.lemmas.List.{map-append}
 use Rattle.std.proofs.lemmas.List.Sums.{fold-append}
 use Rattle.std.proofs.lemmas.Bool.{false≢true, cases_Bool}
-use Rattle.flat_design.specs.Bodies.{Met, met_fault, met_signal, met_words, met_process, met_instance, met_statement, met_writing, met_faults}
+use Rattle.flat_design.specs.Bodies.{Met, met_fault, met_signal, met_words, met_process, met_instance, met_statement, met_text, met_writing, met_faults}
 use Rattle.flat_design.specs.Fault.{Fault, goes_before, is_limit, first_fault, first_of_faults}
 use Rattle.flat_design.specs.Faults.{told}
 use Rattle.flat_design.specs.Processes.{writing_met, writings}
@@ -93,6 +93,7 @@ module _ (rest : List Fault) where
   told_met (met_process p) ms others t e = told_count _ _ _ ms others t e refl
   told_met (met_instance p) ms others t e = told_count _ _ _ ms others t e refl
   told_met (met_statement p) ms others t e = told_count _ _ _ ms others t e refl
+  told_met (met_text p n) ms others t e = told_count _ _ _ ms others t e refl
   told_met (met_writing w) ms others t e = others (record t { writings = t.writings ++ w ∷ [] }) e
 
   pub all_told : (ms : List Met) (t : Tally) → t.ended ≡ false → fold sooner t.first (told t.counts rest ms) ≡ first_at_end (after_all t ms) rest
@@ -117,6 +118,7 @@ met_writes (met_words p n) t = counts_write _ _ _ t
 met_writes (met_process p) t = counts_write _ _ _ t
 met_writes (met_instance p) t = counts_write _ _ _ t
 met_writes (met_statement p) t = counts_write _ _ _ t
+met_writes (met_text p n) t = counts_write _ _ _ t
 met_writes (met_writing w) t = refl
 
 -- where no limit is passed all targets that were met are written

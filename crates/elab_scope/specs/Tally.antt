@@ -1,11 +1,11 @@
 -- What elaboration has found so far: the first fault, what the limits count, and what is written.
 use Rattle.std.specs.Prelude.{◌+◌, ◌==◌, nat_lt, Bool, if◌then◌else◌, List, [], ◌∷◌, ◌++◌, Option, Some, None, true, false}
-use Rattle.flat_design.specs.Bodies.{Met, met_fault, met_signal, met_words, met_process, met_instance, met_statement, met_writing, met_faults}
+use Rattle.flat_design.specs.Bodies.{Met, met_fault, met_signal, met_words, met_process, met_instance, met_statement, met_text, met_writing, met_faults}
 use Rattle.flat_design.specs.Fault.{Fault, goes_before, is_limit, limit_fault}
 use Rattle.flat_design.specs.Faults.{nothing}
 use Rattle.flat_design.specs.declared.counts.Counts.{Counts}
 use Rattle.flat_design.specs.Targets.{Writing}
-use Rattle.flat_design.specs.declared.fault.DesignLimit.TheVariants.{Signals, Processes, Words, Instances, Statements}
+use Rattle.flat_design.specs.declared.fault.DesignLimit.TheVariants.{Signals, Processes, Words, Instances, Statements, Text}
 
 -- what was met up to the first limit that is passed
 pub record Tally : Type 0 where
@@ -44,6 +44,7 @@ with_met (met_process p) t = with_counts (t.counts.processes == 65536) (limit_fa
 with_met (met_words p n) t = with_counts (nat_lt 262144 (t.counts.words + n)) (limit_fault Words p) (record (t.counts) { words = t.counts.words + n }) t
 with_met (met_instance p) t = with_counts (t.counts.instances == 65536) (limit_fault Instances p) (record (t.counts) { instances = t.counts.instances + 1 }) t
 with_met (met_statement p) t = with_counts (t.counts.statements == 1048576) (limit_fault Statements p) (record (t.counts) { statements = t.counts.statements + 1 }) t
+with_met (met_text p n) t = with_counts (nat_lt 134217728 (t.counts.text + n)) (limit_fault Text p) (record (t.counts) { text = t.counts.text + n }) t
 with_met (met_writing w) t = record t { writings = t.writings ++ w ∷ [] }
 
 -- nothing counts after a limit that is passed

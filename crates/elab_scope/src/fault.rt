@@ -89,5 +89,6 @@ fn digit(limit: DesignLimit) -> &'static [u8]
         DesignLimit::Instances => b"5",
         DesignLimit::Path => b"6",
         DesignLimit::Statements => b"7",
+        DesignLimit::Text => b"8",
     }
 }

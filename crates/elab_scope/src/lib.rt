@@ -12,6 +12,7 @@ mod name_set;
 mod names;
 mod scope;
 mod tally;
+mod texts;
 
 pub use fault::{FoundFault, is_before_or};
 pub use name_map::NameMap;

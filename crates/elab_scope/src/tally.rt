@@ -1,8 +1,8 @@
-ghost use Rattle.std.specs.Prelude.{◌≡◌, ◌≤◌, All, OnOk, map};
+ghost use Rattle.std.specs.Prelude.{◌≡◌, ◌≤◌, ◌+◌, ◌-◌, ℕ, All, OnOk, map};
 ghost use Rattle.std.specs.Option.{option_map};
 ghost use Rattle.elab_scope.specs.Tally as spec;
 ghost use Rattle.elab_scope.specs.View.{IsWithin, fault_view, writing_view};
-ghost use Rattle.flat_design.specs.Bodies.{met_fault, met_signal, met_words, met_process, met_instance, met_statement, met_writing};
+ghost use Rattle.flat_design.specs.Bodies.{met_fault, met_signal, met_words, met_process, met_instance, met_statement, met_text, met_writing};
 
 use crate::fault::FoundFault;
 use crate::names::NameAt;
@@ -10,6 +10,7 @@ use cov_host::{NoMemory, Place};
 use flat_design::{Counts, DesignLimit, Thing};
 use std::alloc::Global;
 use std::marker::Model;
+use tree_sizes::Room;
 
 /// A target of an assignment: the signal or memory that its name means, and which of its bits are written.
 #[derive(Clone, Copy, Drop)]
@@ -54,7 +55,7 @@ impl<'a> Model for Tally<'a> {
       writings = map writing_view t.writings.items;
     } };
 
-    ghost invariant = { λ t. (t.counts.signals ≤ 65536) × (t.counts.processes ≤ 65536) × (t.counts.words ≤ 262144) × (t.counts.instances ≤ 65536) × (t.counts.statements ≤ 1048576) × All IsWithin t.writings.items };
+    ghost invariant = { λ t. (t.counts.signals ≤ 65536) × (t.counts.processes ≤ 65536) × (t.counts.words ≤ 262144) × (t.counts.instances ≤ 65536) × (t.counts.statements ≤ 1048576) × (t.counts.text ≤ 134217728) × All IsWithin t.writings.items };
 }
 
 impl<'a> Tally<'a> {
@@ -70,6 +71,7 @@ impl<'a> Tally<'a> {
                 words: 0,
                 instances: 0,
                 statements: 0,
+                text: 0,
             },
             ended: false,
             writings: Vec::new(alloc),
@@ -173,6 +175,30 @@ impl<'a> Tally<'a> {
             self.tell(FoundFault::limit(DesignLimit::Statements, place));
         } else {
             self.counts.statements += 1;
+        }
+    }
+
+    /// How much text may still be gone through, and one part more.
+    pub(crate) fn room(&self) -> Room
+        ensures { self.now.counts.text + result.left ≡ 134217729 }
+    {
+        Room {
+            left: 134_217_729 - self.counts.text,
+        }
+    }
+
+    /// Counts text at this place, which leaves this of the room.
+    pub(crate) fn text(&mut self, place: Place, room: Room)
+        requires { room.left ≤ 134217729 }
+        ensures { (n : ℕ) → room.left ≡ 134217729 - self.old.counts.text - n → self.new ≡ spec.after self.old (met_text place n) }
+    {
+        if self.ended {
+            return;
+        }
+        if room.left == 0 {
+            self.tell(FoundFault::limit(DesignLimit::Text, place));
+        } else {
+            self.counts.text = 134_217_729 - room.left;
         }
     }
 

@@ -1,7 +1,7 @@
 -- What is known where nothing was found: what was met has no fault, so processes can be built.
 use Rattle.std.proofs.Common.{◌≡◌, List, [], ◌∷◌, refl, ◌∙◌}
 use Rattle.std.specs.List.{list_any}
-use Rattle.flat_design.specs.Bodies.{Met, met_fault, met_signal, met_words, met_process, met_instance, met_statement, met_writing}
+use Rattle.flat_design.specs.Bodies.{Met, met_fault, met_signal, met_words, met_process, met_instance, met_statement, met_text, met_writing}
 use Rattle.flat_laws.proofs.Freedom as laws
 use Rattle.elab_bodies.proofs.SoundOfMet as bodies
 use Rattle.elab_scope.specs.Tally.{Tally, after_all}
@@ -15,6 +15,7 @@ one_fault (met_words p n) = refl
 one_fault (met_process p) = refl
 one_fault (met_instance p) = refl
 one_fault (met_statement p) = refl
+one_fault (met_text p n) = refl
 one_fault (met_writing w) = refl
 
 any_fault : (ms : List Met) → list_any bodies.is_fault ms ≡ list_any laws.is_fault ms

@@ -5,7 +5,7 @@ use Rattle.std.proofs.lemmas.Bool.{false≢true, cases_Bool}
 use Rattle.std.proofs.lemmas.List.{length-map}
 use Rattle.std.proofs.lemmas.List.Sums.{sum_by-cons}
 use Rattle.design_model.specs.Lawful.{span}
-use Rattle.flat_design.specs.Bodies.{Met, met_fault, met_signal, met_words, met_process, met_instance, met_statement, met_writing, met_faults}
+use Rattle.flat_design.specs.Bodies.{Met, met_fault, met_signal, met_words, met_process, met_instance, met_statement, met_text, met_writing, met_faults}
 use Rattle.flat_design.specs.Fault.{Fault, is_limit, limit_fault}
 use Rattle.flat_design.specs.Instances.{Instantiation, Sofar, meet, add_process, opened, opening_met, declared, declared_met, is_own, is_memory, memory_of, signal_of}
 use Rattle.flat_design.specs.Declarations.{Declaration}
@@ -14,7 +14,7 @@ use Rattle.flat_laws.proofs.Continues.{Continues, continues_process}
 use Rattle.flat_laws.proofs.Freedom.{IsFree, is_fault, signal_count, process_count, word_count, instance_count}
 use Rattle.flat_laws.proofs.LawfulCounts.{AddsProcess, is_inner, inner_faults, sum_nothing, sum_opening, signals_met, memories_met, others_met, no_signal, no_process, no_words, no_instance, told_inner}
 use Rattle.flat_design.specs.declared.counts.Counts.{Counts}
-use Rattle.flat_design.specs.declared.fault.DesignLimit.TheVariants.{Signals, Processes, Words, Instances, Statements}
+use Rattle.flat_design.specs.declared.fault.DesignLimit.TheVariants.{Signals, Processes, Words, Instances, Statements, Text}
 use Rattle.elab_scope.specs.Tally.{Tally, after, after_all, sooner, with_counts, with_met}
 use Rattle.elab_scope.proofs.TallyLemmas.{after_all-append, after_all_ended, after_open, was_open}
 use Rattle.elaborator.specs.Walk.{IsClean, StandsFor}
@@ -45,6 +45,8 @@ one_counted t (met_instance p) open' =
     rw (counts_open (t.counts.instances == 65536) (limit_fault Instances p) _ t refl open') (record { signals = omega arith; processes = omega arith; words = omega arith; instances = omega arith })
 one_counted t (met_statement p) open' =
     rw (counts_open (t.counts.statements == 1048576) (limit_fault Statements p) _ t refl open') (record { signals = omega arith; processes = omega arith; words = omega arith; instances = omega arith })
+one_counted t (met_text p n) open' =
+    rw (counts_open (nat_lt 134217728 (t.counts.text + n)) (limit_fault Text p) _ t refl open') (record { signals = omega arith; processes = omega arith; words = omega arith; instances = omega arith })
 
 -- of all that is met
 pub all_counted : (t : Tally) (ms : List Met) → (after_all t ms).ended ≡ false → AreCounted t (after_all t ms) ms
@@ -82,6 +84,7 @@ one_told t (met_process p) told ended first = counts_told (t.counts.processes ==
 one_told t (met_words p n) told ended first = counts_told (nat_lt 262144 (t.counts.words + n)) (limit_fault Words p) _ t told ended first
 one_told t (met_instance p) told ended first = counts_told (t.counts.instances == 65536) (limit_fault Instances p) _ t told ended first
 one_told t (met_statement p) told ended first = counts_told (t.counts.statements == 1048576) (limit_fault Statements p) _ t told ended first
+one_told t (met_text p n) told ended first = counts_told (nat_lt 134217728 (t.counts.text + n)) (limit_fault Text p) _ t told ended first
 
 told_if : (b : Bool) (t u : Tally) → IsTold t → IsTold u → IsTold (if b then t else u)
 told_if true t u told other = told
@@ -104,6 +107,7 @@ one_clear t (met_process p) first = (counts_clear (t.counts.processes == 65536) 
 one_clear t (met_words p n) first = (counts_clear (nat_lt 262144 (t.counts.words + n)) (limit_fault Words p) _ t first, refl)
 one_clear t (met_instance p) first = (counts_clear (t.counts.instances == 65536) (limit_fault Instances p) _ t first, refl)
 one_clear t (met_statement p) first = (counts_clear (t.counts.statements == 1048576) (limit_fault Statements p) _ t first, refl)
+one_clear t (met_text p n) first = (counts_clear (nat_lt 134217728 (t.counts.text + n)) (limit_fault Text p) _ t first, refl)
 
 pub all_clean : (t : Tally) (ms : List Met) → IsClean (after_all t ms) → IsClean t × IsFree ms
 all_clean t [] clean = (clean, record { no_fault = refl })

@@ -3,6 +3,7 @@ use Rattle.std.specs.Prelude.{ℕ, ◌+◌, Bool, false, not, ◌&&◌, if◌the
 use Rattle.cov_host.specs.declared.place.Place.{Place}
 use Rattle.four_state.specs.Vector.{Vector}
 use Rattle.design_model.specs.Tree.{Terms, no_terms, a_term, Stmt, block, branch, select, turns, set, empty, Stmts, no_stmts, a_stmt, Arms, no_arms, arm}
+use Rattle.tree_sizes.specs.Sizes.{size, labels_size}
 use Rattle.verilog_tree.specs.declared.item.Named.{Named}
 use Rattle.verilog_tree.specs.Tree.{Expr, Exprs, no_exprs, an_expr, Header, Statement, sequential_block, if_statement, case_statement, for_loop, assignment, system_task, null_statement, Statements, no_statements, a_statement, CaseItems, no_items, case_item}
 use Rattle.elab_const.specs.Calls.{told}
@@ -27,6 +28,7 @@ pub data Met : Type 0 where
   met_process : Place → Met
   met_instance : Place → Met
   met_statement : Place → Met
+  met_text : Place → ℕ → Met  -- text of so many parts that is gone through
   met_writing : Writing → Met
 
 -- faults, as they are met
@@ -50,11 +52,11 @@ met_turns vs f = flat_map f vs
 abbrev mutual
   pub met : Scope → Mode → ℕ → Statement → List Met
   met g mode k (sequential_block p ss) = met_statement p ∷ all_met g mode k ss
-  met g mode k (if_statement p c s other) = met_statement p ∷ met_faults (faults g c) ++ met g mode k s ++ all_met g mode k other
-  met g mode k (case_statement p kind e is) = met_statement p ∷ met_faults (faults g e) ++ items_met g mode k is
+  met g mode k (if_statement p c s other) = met_statement p ∷ met_text p (size c) ∷ met_faults (faults g c) ++ met g mode k s ++ all_met g mode k other
+  met g mode k (case_statement p kind e is) = met_statement p ∷ met_text p (size e + labels_size is) ∷ met_faults (faults g e) ++ items_met g mode k is
   met g mode k (for_loop p h s) =
-      met_statement p ∷ met_faults (loops.turn_faults g h) ++ met_turns (loops.turns g h) (λ v. met (in_turn h v g) mode k s)
-  met g mode k (assignment p x blocking v) = met_statement p ∷ met_faults (target_faults g mode x ++ faults g v) ++ met_writings g mode blocking false k x
+      met_statement p ∷ met_faults (loops.turn_faults g h) ++ met_text h.place (loops.turns_size g h) ∷ met_turns (loops.turns g h) (λ v. met (in_turn h v g) mode k s)
+  met g mode k (assignment p x blocking v) = met_statement p ∷ met_text p (size x + size v) ∷ met_faults (target_faults g mode x ++ faults g v) ++ met_writings g mode blocking false k x
   met g mode k (system_task p) = met_statement p ∷ []
   met g mode k (null_statement p) = met_statement p ∷ []
 

@@ -8,7 +8,7 @@ use Rattle.elab_const.specs.declared.fault.ConstKind.{ConstKind}
 use Rattle.elab_const.specs.declared.fault.ConstFault.{ConstFault}
 use Rattle.elab_const.specs.declared.fault.ConstFault.TheVariants as const_fault
 use Rattle.flat_design.specs.declared.fault.DesignLimit.{DesignLimit}
-use Rattle.flat_design.specs.declared.fault.DesignLimit.TheVariants.{Signals, Processes, MemoryWords, Words, Instances, Path, Statements}
+use Rattle.flat_design.specs.declared.fault.DesignLimit.TheVariants.{Signals, Processes, MemoryWords, Words, Instances, Path, Statements, Text}
 use Rattle.flat_design.specs.declared.fault.ElabFault.{ElabFault}
 use Rattle.flat_design.specs.declared.fault.ElabFault.TheVariants as elab_fault
 pub use Rattle.flat_design.specs.declared.fault.ElabKind.{ElabKind}
@@ -32,6 +32,7 @@ limit_number Words = 4
 limit_number Instances = 5
 limit_number Path = 6
 limit_number Statements = 7
+limit_number Text = 8
 
 -- a limit that is passed with the item or statement at this place; the name is its number as a digit
 abbrev pub limit_fault : DesignLimit → Place → Fault

@@ -4,8 +4,8 @@ use Rattle.design_model.specs.Design.{Design, In}
 use Rattle.verilog_tree.specs.declared.item.Named.{Named}
 use Rattle.verilog_tree.specs.Tree.{Module}
 pub use Rattle.flat_design.specs.declared.counts.Counts.{Counts}
-use Rattle.flat_design.specs.declared.fault.DesignLimit.TheVariants.{Signals, Processes, Words, Instances, Statements}
-use Rattle.flat_design.specs.Bodies.{Met, met_fault, met_signal, met_words, met_process, met_instance, met_statement, met_writing}
+use Rattle.flat_design.specs.declared.fault.DesignLimit.TheVariants.{Signals, Processes, Words, Instances, Statements, Text}
+use Rattle.flat_design.specs.Bodies.{Met, met_fault, met_signal, met_words, met_process, met_instance, met_statement, met_text, met_writing}
 use Rattle.flat_design.specs.Fault.{Fault, fault_at, limit_fault, fault_if, is_limit, first_fault, TwoModules}
 use Rattle.flat_design.specs.Flat.{elaborated}
 use Rattle.flat_design.specs.Identifiers.{is_among}
@@ -13,7 +13,7 @@ use Rattle.flat_design.specs.Processes.{writings, driver_faults}
 
 -- nothing counted yet
 abbrev pub nothing : Counts
-nothing = record { signals = 0; processes = 0; words = 0; instances = 0; statements = 0 }
+nothing = record { signals = 0; processes = 0; words = 0; instances = 0; statements = 0; text = 0 }
 
 -- the faults found in order, up to the first limit that is passed; the rest follows where no limit is passed
 abbrev pub told : Counts → List Fault → List Met → List Fault
@@ -24,6 +24,7 @@ told c rest (met_process p ∷ ms) = if c.processes == 65536 then limit_fault Pr
 told c rest (met_words p n ∷ ms) = if nat_lt 262144 (c.words + n) then limit_fault Words p ∷ [] else told (record c { words = c.words + n }) rest ms
 told c rest (met_instance p ∷ ms) = if c.instances == 65536 then limit_fault Instances p ∷ [] else told (record c { instances = c.instances + 1 }) rest ms
 told c rest (met_statement p ∷ ms) = if c.statements == 1048576 then limit_fault Statements p ∷ [] else told (record c { statements = c.statements + 1 }) rest ms
+told c rest (met_text p n ∷ ms) = if nat_lt 134217728 (c.text + n) then limit_fault Text p ∷ [] else told (record c { text = c.text + n }) rest ms
 told c rest (met_writing w ∷ ms) = told c rest ms
 
 -- two modules of one name

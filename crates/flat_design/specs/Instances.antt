@@ -9,10 +9,11 @@ use Rattle.design_model.specs.declared.design.Memory.{Memory}
 use Rattle.design_model.specs.declared.design.Signal.{Signal}
 use Rattle.design_model.specs.Lawful.{span}
 use Rattle.design_model.specs.declared.design.Range.{Range}
+use Rattle.tree_sizes.specs.Sizes.{module_size}
 use Rattle.verilog_tree.specs.declared.item.Named.{Named}
 use Rattle.verilog_tree.specs.Tree.{Module}
 use Rattle.flat_design.specs.declared.fault.DesignLimit.TheVariants.{Path}
-use Rattle.flat_design.specs.Bodies.{Met, met_signal, met_words, met_instance, met_faults}
+use Rattle.flat_design.specs.Bodies.{Met, met_signal, met_words, met_instance, met_text, met_faults}
 use Rattle.flat_design.specs.Declarations.{Override, Declaration, Sort, a_net, a_variable, words_from, an_integer, some_instance, constants_from, constants_faults, declarations, all_declarations, twice_faults, listed_twice, direction_faults, item_range_faults, is_net, names_parameter}
 use Rattle.flat_design.specs.Fault.{Fault, limit_fault, fault_if}
 use Rattle.flat_design.specs.Identifiers.{params_of, names_of, item_identifiers, item_loops, is_among}
@@ -220,7 +221,7 @@ declaration_faults os m =
 -- what is met in the declarations of an instance
 abbrev pub opening_met : Instantiation → List Met
 opening_met i =
-    met_instance i.item ∷ met_faults (path_faults i.item i.path ++ declaration_faults i.overrides i.of_module) ++ flat_map (declared_met i) (declared i.overrides i.of_module)
+    met_instance i.item ∷ met_text i.item (module_size i.of_module) ∷ met_faults (path_faults i.item i.path ++ declaration_faults i.overrides i.of_module) ++ flat_map (declared_met i) (declared i.overrides i.of_module)
 
 -- the design with an instance's own signals, memories, constants and aliases
 abbrev pub opened : Instantiation → Sofar → Sofar

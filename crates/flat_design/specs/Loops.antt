@@ -1,7 +1,8 @@
 -- The turns of a loop in a scope: the values of its variable, or what is wrong with its header (clause 9.6).
-use Rattle.std.specs.Prelude.{Bool, true, false, not, ◌&&◌, ◌||◌, if◌then◌else◌, List, [], ◌∷◌, ◌++◌, bytes_eq, Option, Some, None, Result, Ok, Err}
+use Rattle.std.specs.Prelude.{ℕ, ◌*◌, suc, Bool, true, false, not, ◌&&◌, ◌||◌, if◌then◌else◌, List, [], ◌∷◌, ◌++◌, length, bytes_eq, Option, Some, None, Result, Ok, Err}
 use Rattle.cov_host.specs.declared.place.Place.{Place}
 use Rattle.four_state.specs.Vector.{Vector}
+use Rattle.tree_sizes.specs.Sizes.{header_size}
 use Rattle.four_state.specs.declared.bit.Bit.TheVariants.{X}
 use Rattle.verilog_tree.specs.declared.item.Named.{Named}
 use Rattle.verilog_tree.specs.Tree.{Expr, identifier, Header}
@@ -67,3 +68,12 @@ turns g h = values_of (answer g h)
 -- what is wrong with a header
 abbrev pub turn_faults : Scope → Header → List Fault
 turn_faults g h = header_faults g h ++ answer_faults (answer g h)
+
+-- how often a header is gone through: once and in each turn, or up to the limit of turns
+abbrev pub times : Result (List Vector) ConstFault → ℕ
+times (Ok vs) = suc (length vs)
+times (Err f) = 1025
+
+-- the text of a header, as often as it is gone through
+abbrev pub turns_size : Scope → Header → ℕ
+turns_size g h = header_size h * times (answer g h)

@@ -11,4 +11,6 @@ pub struct Counts {
     pub instances: u32,
     /// Statements, with each turn of a loop written out.
     pub statements: u32,
+    /// The text of instances, statements and turns of loops that is gone through: its parts, and the bytes of its names.
+    pub text: usize,
 }

@@ -90,10 +90,13 @@ pub enum DesignLimit {
     Path,
     /// 1,048,576 statements with each turn of a loop written out.
     Statements,
+    /// 134,217,728 parts of text that is gone through: of each module once for each instance, and of each statement once
+    /// for each turn of the loops around it. A name counts its bytes and one.
+    Text,
 }
 
 impl DesignLimit {
-    /// Its number, from 1 to 7.
+    /// Its number, from 1 to 8.
     pub fn number(self) -> u8
         ensures { result ≡ limit_number self }
     {
@@ -105,6 +108,7 @@ impl DesignLimit {
             DesignLimit::Instances => 5,
             DesignLimit::Path => 6,
             DesignLimit::Statements => 7,
+            DesignLimit::Text => 8,
         }
     }
 }

@@ -1,12 +1,12 @@
 -- Each declared name of a module without fault stands for one declaration.
-use Rattle.std.proofs.Common.{◌≡◌, ◌⊎◌, inl, inr, ℕ, Bool, true, false, not, ◌&&◌, ◌||◌, cond, if◌then◌else◌, List, [], ◌∷◌, ◌++◌, Some, None, refl, sym, ap, ◌∙◌, subst, map}
-use Rattle.std.specs.List.{flat_map, list_any}
+use Rattle.std.proofs.Common.{◌≡◌, ◌⊎◌, inl, inr, ℕ, Bool, true, false, not, ◌&&◌, cond, if◌then◌else◌, List, [], ◌∷◌, ◌++◌, Some, None, refl, sym, ap, ◌∙◌, subst, map}
+use Rattle.std.specs.List.{flat_map}
 use Rattle.std.specs.Prelude.{bytes_eq, is_none}
 use Rattle.std.proofs.lemmas.Bool.{false≢true, and_parts}
 use Rattle.std.proofs.lemmas.List.{map-append}
 use Rattle.design_model.specs.Design.{In, AreDistinct}
 use Rattle.verilog_tree.specs.Tree.{Param, ItemForm, initial_item, port_item, net_item, variable_item, integer_item, parameter_item, continuous_item, always_item, instance_item, Item, Module}
-use Rattle.flat_design.specs.Declarations.{Declaration, Override, Sort, a_net, a_variable, a_parameter, declaration, item_declarations, all_declarations, is_vector, completes, completed, add_declaration, declarations_from, is_declared_again, twice_faults, param_entry, with_param, constants_from}
+use Rattle.flat_design.specs.Declarations.{Declaration, Override, Sort, a_parameter, declaration, item_declarations, all_declarations, is_vector, completes, completed, add_declaration, declarations_from, is_declared_again, twice_faults, param_entry, with_param, constants_from}
 use Rattle.flat_design.specs.Identifiers.{params_of, item_params}
 use Rattle.flat_design.specs.Instances.{constants, constant_scope, declaration_faults, declared, other_names}
 use Rattle.flat_design.specs.Scope.{Scope, Bindings, binding_of, with_bindings}

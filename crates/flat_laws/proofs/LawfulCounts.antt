@@ -9,11 +9,12 @@ use Rattle.four_state.specs.Vector.{Vector}
 use Rattle.design_model.specs.Lawful.{size, sizes, arm_sizes, size_of, span}
 use Rattle.design_model.specs.Tree.{Stmt, Process}
 use Rattle.design_model.specs.declared.design.Memory.{Memory}
+use Rattle.tree_sizes.specs.Sizes.{labels_size, module_size, size as text_size}
 use Rattle.verilog_tree.specs.declared.item.When.{When}
 use Rattle.verilog_tree.specs.declared.item.When.TheVariants.{Star, Names, Edges}
 use Rattle.verilog_tree.specs.Tree.{Expr, Module, Statement, sequential_block, if_statement, case_statement, for_loop, assignment, system_task, null_statement, Statements, no_statements, a_statement, CaseItems, no_items, case_item}
 use Rattle.elab_const.specs.declared.width.Shape.{Shape}
-use Rattle.flat_design.specs.Bodies.{Met, met_fault, met_signal, met_words, met_process, met_instance, met_statement, met_writing, met_faults, met_writings, met_turns, in_turn, met, all_met, items_met, statement, statements, arms, turn_stmts, case_shape}
+use Rattle.flat_design.specs.Bodies.{Met, met_fault, met_signal, met_words, met_process, met_instance, met_statement, met_text, met_writing, met_faults, met_writings, met_turns, in_turn, met, all_met, items_met, statement, statements, arms, turn_stmts, case_shape}
 use Rattle.flat_design.specs.Declarations.{Declaration, Sort, a_net, a_variable, words_from, an_integer, a_parameter, some_instance, faulty, faulty_memory}
 use Rattle.flat_design.specs.Expressions.{faults, all_faults}
 use Rattle.flat_design.specs.Fault.{Fault, none}
@@ -30,15 +31,17 @@ use Rattle.flat_design.specs.declared.entry.Mode.TheVariants.{Continuous}
 use Rattle.flat_laws.proofs.Freedom.{signal_count, process_count, word_count, instance_count, statement_count}
 use Rattle.flat_laws.proofs.Members.{both_true}
 
--- a fault or what is written
+-- a fault, text, or what is written
 abbrev pub is_told : Met → Bool
 is_told (met_fault f) = true
+is_told (met_text p n) = true
 is_told (met_writing w) = true
 is_told _ = false
 
 -- the same, or a statement
 abbrev pub is_inner : Met → Bool
 is_inner (met_fault f) = true
+is_inner (met_text p n) = true
 is_inner (met_writing w) = true
 is_inner (met_statement p) = true
 is_inner _ = false
@@ -64,6 +67,7 @@ told_writings g mode blocking continuous k e = by_test (none (target_faults g mo
 inner_told : (ms : List Met) → list_all is_told ms ≡ true → list_all is_inner ms ≡ true
 inner_told [] h = refl
 inner_told (met_fault f ∷ ms) h = inner_told ms h
+inner_told (met_text p n ∷ ms) h = inner_told ms h
 inner_told (met_writing f ∷ ms) h = inner_told ms h
 inner_told (met_signal f ∷ ms) h = absurd (false≢true h)
 inner_told (met_words f n ∷ ms) h = absurd (false≢true h)
@@ -88,7 +92,8 @@ mutual
       all_append is_inner (met_faults (faults g c) ++ met g mode k s) _ (all_append is_inner (met_faults (faults g c)) _ (inner_faults (faults g c)) (inner_met g mode k s)) (inner_all g mode k other)
   inner_met g mode k (case_statement p kind e is) = all_append is_inner (met_faults (faults g e)) _ (inner_faults (faults g e)) (inner_items g mode k is)
   inner_met g mode k (for_loop p h s) =
-      all_append is_inner (met_faults (loops.turn_faults g h)) _ (inner_faults (loops.turn_faults g h)) (inner_turns (loops.turns g h) _ (λ v. inner_met (in_turn h v g) mode k s))
+      let turns : List Met = met_turns (loops.turns g h) (λ v. met (in_turn h v g) mode k s) in
+      all_append is_inner (met_faults (loops.turn_faults g h)) (met_text h.place (loops.turns_size g h) ∷ turns) (inner_faults (loops.turn_faults g h)) (inner_turns (loops.turns g h) _ (λ v. inner_met (in_turn h v g) mode k s))
   inner_met g mode k (assignment p x blocking v) =
       all_append is_inner (met_faults (target_faults g mode x ++ faults g v)) _ (inner_faults (target_faults g mode x ++ faults g v)) (inner_writings g mode blocking false k x)
   inner_met g mode k (system_task p) = refl
@@ -143,18 +148,23 @@ count_turns (v ∷ vs) f h same = omega (arith, sum_by-append statement_count (f
 after_faults : (fs : List Fault) (ms : List Met) → sum_by statement_count (met_faults fs ++ ms) ≡ sum_by statement_count ms
 after_faults fs ms = omega (arith, sum_by-append statement_count (met_faults fs) ms, no_statements_told (met_faults fs) (told_faults fs))
 
+-- behind a statement and its text
+after_text : (p : Place) (n : ℕ) (ms : List Met) → sum_by statement_count (met_statement p ∷ met_text p n ∷ ms) ≡ 1 + sum_by statement_count ms
+after_text p n ms = omega (arith, sum_by-cons statement_count (met_statement p) (met_text p n ∷ ms), sum_by-cons statement_count (met_text p n) ms)
+
 mutual
   pub count_statements : (base : ℕ) (g : Scope) (mode : Mode) (k : ℕ) (s : Statement) (l n : ℕ) → sum_by statement_count (met g mode k s) ≡ size (statement base g s l n)
   count_statements base g mode k (sequential_block p ss) l n = omega (arith, sum_by-cons statement_count (met_statement p) (all_met g mode k ss), count_all base g mode k ss l n)
   count_statements base g mode k (if_statement p c s other) l n =
-      omega (arith, sum_by-cons statement_count (met_statement p) (met_faults (faults g c) ++ met g mode k s ++ all_met g mode k other), after_faults (faults g c) (met g mode k s), sum_by-append statement_count (met_faults (faults g c) ++ met g mode k s) (all_met g mode k other), count_statements base g mode k s (l + 1) (n + condition_nodes g c), count_all base g mode k other (l + 1 + lines s) (n + condition_nodes g c + statement_nodes g s))
+      omega (arith, after_text p (text_size c) (met_faults (faults g c) ++ met g mode k s ++ all_met g mode k other), after_faults (faults g c) (met g mode k s), sum_by-append statement_count (met_faults (faults g c) ++ met g mode k s) (all_met g mode k other), count_statements base g mode k s (l + 1) (n + condition_nodes g c), count_all base g mode k other (l + 1 + lines s) (n + condition_nodes g c + statement_nodes g s))
   count_statements base g mode k (case_statement p kind e is) l n =
-      omega (arith, sum_by-cons statement_count (met_statement p) (met_faults (faults g e) ++ items_met g mode k is), after_faults (faults g e) (items_met g mode k is), count_items base g mode k (case_shape g e is) is (l + 1) (n + nodes g e))
+      omega (arith, after_text p (text_size e + labels_size is) (met_faults (faults g e) ++ items_met g mode k is), after_faults (faults g e) (items_met g mode k is), count_items base g mode k (case_shape g e is) is (l + 1) (n + nodes g e))
   count_statements base g mode k (for_loop p h s) l n =
       let turns : List Met = met_turns (loops.turns g h) (λ v. met (in_turn h v g) mode k s) in
-      omega (arith, sum_by-cons statement_count (met_statement p) (met_faults (loops.turn_faults g h) ++ turns), after_faults (loops.turn_faults g h) turns, count_turns (loops.turns g h) (λ v. met (in_turn h v g) mode k s) (λ v. statement base (in_turn h v g) s (l + 1) n) (λ v. count_statements base (in_turn h v g) mode k s (l + 1) n))
+      let text : Met = met_text h.place (loops.turns_size g h) in
+      omega (arith, sum_by-cons statement_count (met_statement p) (met_faults (loops.turn_faults g h) ++ text ∷ turns), after_faults (loops.turn_faults g h) (text ∷ turns), sum_by-cons statement_count text turns, count_turns (loops.turns g h) (λ v. met (in_turn h v g) mode k s) (λ v. statement base (in_turn h v g) s (l + 1) n) (λ v. count_statements base (in_turn h v g) mode k s (l + 1) n))
   count_statements base g mode k (assignment p x blocking v) l n =
-      omega (arith, sum_by-cons statement_count (met_statement p) (met_faults (target_faults g mode x ++ faults g v) ++ met_writings g mode blocking false k x), after_faults (target_faults g mode x ++ faults g v) (met_writings g mode blocking false k x), no_statements_told (met_writings g mode blocking false k x) (told_writings g mode blocking false k x))
+      omega (arith, after_text p (text_size x + text_size v) (met_faults (target_faults g mode x ++ faults g v) ++ met_writings g mode blocking false k x), after_faults (target_faults g mode x ++ faults g v) (met_writings g mode blocking false k x), no_statements_told (met_writings g mode blocking false k x) (told_writings g mode blocking false k x))
   count_statements base g mode k (system_task p) l n = refl
   count_statements base g mode k (null_statement p) l n = refl
 
@@ -260,6 +270,7 @@ sum_named f h i d m = omega (arith, sum_by-cons f m (met_faults (path_faults d.i
 
 pub told_inner : (m : Met) → is_told m ≡ true → is_inner m ≡ true
 told_inner (met_fault f) h = refl
+told_inner (met_text p n) h = refl
 told_inner (met_writing f) h = refl
 told_inner (met_signal f) h = absurd (false≢true h)
 told_inner (met_words f n) h = absurd (false≢true h)
@@ -335,9 +346,10 @@ counted_process m st adds h = record {
   statements = omega (arith, sum_by-append statement_count st.met m.met, adds.statements, h.statements, sum_by-append size_of st.design.processes (m.process ∷ []), sum_by-cons size_of m.process []);
 }
 
--- what is met at an opening: the instance, faults, and the declarations
+-- what is met at an opening: the instance, the text of its module, faults, and the declarations
 pub sum_opening : (f : Met → ℕ) → ((m : Met) → is_told m ≡ true → f m ≡ 0) → (i : Instantiation) → sum_by f (opening_met i) ≡ f (met_instance i.item) + sum_by f (flat_map (declared_met i) (declared i.overrides i.of_module))
 sum_opening f h i =
     let fs : List Fault = path_faults i.item i.path ++ declaration_faults i.overrides i.of_module in
     let ms : List Met = flat_map (declared_met i) (declared i.overrides i.of_module) in
-    omega (arith, sum_by-cons f (met_instance i.item) (met_faults fs ++ ms), sum_by-append f (met_faults fs) ms, sum_nothing f is_told h (met_faults fs) (told_faults fs))
+    let text : Met = met_text i.item (module_size i.of_module) in
+    omega (arith, sum_by-cons f (met_instance i.item) (text ∷ met_faults fs ++ ms), sum_by-cons f text (met_faults fs ++ ms), h text refl, sum_by-append f (met_faults fs) ms, sum_nothing f is_told h (met_faults fs) (told_faults fs))

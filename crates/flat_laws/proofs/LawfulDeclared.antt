@@ -8,7 +8,7 @@ use Rattle.design_model.specs.Design.{In}
 use Rattle.design_model.specs.Lawful.{span}
 use Rattle.verilog_tree.specs.declared.item.Named.{Named}
 use Rattle.verilog_tree.specs.Tree.{RangeExpr, ItemForm, initial_item, port_item, net_item, variable_item, integer_item, parameter_item, continuous_item, always_item, instance_item, Module}
-use Rattle.flat_design.specs.Declarations.{Declaration, Override, Sort, a_net, a_variable, words_from, an_integer, a_parameter, some_instance, faulty, faulty_memory, range_value, bounds_faults, vector_faults, words_faults, is_sound_range, is_sound_vector, declaration, is_any_memory, sort_if, words_sort, item_declarations, all_declarations, is_variable, is_faulty, completes, completed, add_declaration, declarations_from}
+use Rattle.flat_design.specs.Declarations.{Declaration, Override, Sort, a_net, a_variable, words_from, a_parameter, faulty, faulty_memory, range_value, bounds_faults, vector_faults, words_faults, is_sound_range, is_sound_vector, declaration, is_any_memory, sort_if, words_sort, item_declarations, all_declarations, is_variable, is_faulty, completes, completed, add_declaration, declarations_from}
 use Rattle.flat_design.specs.Fault.{Fault, fault_if, none}
 use Rattle.flat_design.specs.Instances.{declared, constant_scope}
 use Rattle.flat_design.specs.Scope.{Scope, range_width, natural_number}

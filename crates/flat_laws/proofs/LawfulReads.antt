@@ -32,7 +32,7 @@ use Rattle.flat_design.specs.Instances.{Sofar}
 use Rattle.flat_design.specs.Loops.{is_identifier}
 use Rattle.flat_design.specs.Numbering.{condition_nodes, is_counted_condition, nodes, one_if}
 use Rattle.flat_design.specs.Processes.{all_self_reads, have_common, reads_bits, reads_driven, self_faults, self_read, self_reads, uncounted, written}
-use Rattle.flat_design.specs.Scope.{Scope, is_memory_name, is_same_thing, look_up, names_constants, names_faulty, names_thing, natural_number, range_or, range_width, shape, thing_number, thing_of, whole_number}
+use Rattle.flat_design.specs.Scope.{Scope, is_memory_name, look_up, names_constants, names_faulty, names_thing, natural_number, range_or, range_width, shape, thing_number, thing_of, whole_number}
 use Rattle.flat_design.specs.declared.entry.Entry.{Entry}
 use Rattle.flat_design.specs.declared.entry.Entry.TheVariants.{Constant as a_constant, Turn as a_turn, Signal as a_signal, Memory as a_memory, LoopVariable as a_loop_variable, Instance as an_instance, NoConstant as no_constant, Faulty as a_faulty_one}
 use Rattle.flat_design.specs.declared.entry.Mode.TheVariants.{Continuous}

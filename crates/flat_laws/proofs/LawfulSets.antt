@@ -7,7 +7,7 @@ use Rattle.design_model.specs.Mentions.{any_set, any_set_of, any_set_in}
 use Rattle.design_model.specs.Tree.{Stmt, Target, Term}
 use Rattle.verilog_tree.specs.Tree.{Expr, Header, Statement, sequential_block, if_statement, case_statement, for_loop, assignment, system_task, null_statement, Statements, no_statements, a_statement, CaseItems, no_items, case_item}
 use Rattle.elab_const.specs.declared.width.Shape.{Shape}
-use Rattle.flat_design.specs.Bodies.{Met, met_faults, met_writings, met_turns, in_turn, met, all_met, items_met, statement, statements, arms, turn_stmts, case_shape}
+use Rattle.flat_design.specs.Bodies.{Met, met_faults, met_text, met_writings, met_turns, in_turn, met, all_met, items_met, statement, statements, arms, turn_stmts, case_shape}
 use Rattle.flat_design.specs.Expressions.{faults, all_faults}
 use Rattle.flat_design.specs.Loops as loops
 use Rattle.flat_design.specs.Numbering.{nodes, all_nodes, condition_nodes, statement_nodes, lines}
@@ -76,31 +76,32 @@ mutual
   found_set P stays base g mode k f (sequential_block p ss) l n known free h =
       found_among P base mode k (all_met g mode k ss) _ f (λ w i. inr i) (found_all P stays base g mode k f ss l n known (behind _ _ free) h)
   found_set P stays base g mode k f (if_statement p c s other) l n known free h =
-      let rest = behind _ (met_faults (faults g c) ++ met g mode k s ++ all_met g mode k other) free in
+      let rest = behind _ (met_faults (faults g c) ++ met g mode k s ++ all_met g mode k other) (behind _ _ free) in
       let a = free_parts (met_faults (faults g c) ++ met g mode k s) (all_met g mode k other) rest in
       let b = free_parts (met_faults (faults g c)) (met g mode k s) a.0 in
       either_found P base mode k (met g mode k s) (all_met g mode k other) _ f _ _
-      (λ w i. inr (in_left w (met_faults (faults g c) ++ met g mode k s) (all_met g mode k other) (in_right w (met_faults (faults g c)) (met g mode k s) i)))
-      (λ w i. inr (in_right w (met_faults (faults g c) ++ met g mode k s) (all_met g mode k other) i))
+      (λ w i. inr (inr (in_left w (met_faults (faults g c) ++ met g mode k s) (all_met g mode k other) (in_right w (met_faults (faults g c)) (met g mode k s) i))))
+      (λ w i. inr (inr (in_right w (met_faults (faults g c) ++ met g mode k s) (all_met g mode k other) i)))
       (found_set P stays base g mode k f s (l + 1) (n + condition_nodes g c) known b.1)
       (found_all P stays base g mode k f other (l + 1 + lines s) (n + condition_nodes g c + statement_nodes g s) known a.1) h
   found_set P stays base g mode k f (case_statement p kind e is) l n known free h =
-      let rest = behind _ (met_faults (faults g e) ++ items_met g mode k is) free in
+      let rest = behind _ (met_faults (faults g e) ++ items_met g mode k is) (behind _ _ free) in
       let a = free_parts (met_faults (faults g e)) (items_met g mode k is) rest in
-      found_among P base mode k (items_met g mode k is) _ f (λ w i. inr (in_right w (met_faults (faults g e)) (items_met g mode k is) i)) (found_item P stays base g mode k f (case_shape g e is) is (l + 1) (n + nodes g e) known a.1 h)
+      found_among P base mode k (items_met g mode k is) _ f (λ w i. inr (inr (in_right w (met_faults (faults g e)) (items_met g mode k is) i))) (found_item P stays base g mode k f (case_shape g e is) is (l + 1) (n + nodes g e) known a.1 h)
   found_set P stays base g mode k f (for_loop p x s) l n known free h =
       let turns : List Met = met_turns (loops.turns g x) (λ v. met (in_turn x v g) mode k s) in
-      let rest = behind _ (met_faults (loops.turn_faults g x) ++ turns) free in
-      let a = free_parts (met_faults (loops.turn_faults g x)) turns rest in
+      let text : Met = met_text x.place (loops.turns_size g x) in
+      let rest = behind _ (met_faults (loops.turn_faults g x) ++ text ∷ turns) free in
+      let a = free_parts (met_faults (loops.turn_faults g x)) (text ∷ turns) rest in
       let sound : loops.turn_faults g x ≡ [] = free_faults (loops.turn_faults g x) a.0 in
-      found_among P base mode k turns _ f (λ w i. inr (in_right w (met_faults (loops.turn_faults g x)) turns i))
+      found_among P base mode k turns _ f (λ w i. inr (in_right w (met_faults (loops.turn_faults g x)) (text ∷ turns) (inr i)))
       (found_turn P base mode k f (loops.turns g x) (λ v. met (in_turn x v g) mode k s) (λ v. statement base (in_turn x v g) s (l + 1) n)
-      (λ v free_turn e. found_set P stays base (in_turn x v g) mode k f s (l + 1) n (stays g x v known sound) free_turn e) a.1 h)
+      (λ v free_turn e. found_set P stays base (in_turn x v g) mode k f s (l + 1) n (stays g x v known sound) free_turn e) (behind text turns a.1) h)
   found_set P stays base g mode k f (assignment p x blocking v) l n known free h =
-      let rest = behind _ (met_faults (target_faults g mode x ++ faults g v) ++ met_writings g mode blocking false k x) free in
+      let rest = behind _ (met_faults (target_faults g mode x ++ faults g v) ++ met_writings g mode blocking false k x) (behind _ _ free) in
       let a = free_parts (met_faults (target_faults g mode x ++ faults g v)) (met_writings g mode blocking false k x) rest in
       let b = both_empty (target_faults g mode x) (faults g v) (free_faults (target_faults g mode x ++ faults g v) a.0) in
-      record { scope = g; to = x; blocking = blocking; value = v; node = n; known = known; target_sound = b.0; value_sound = b.1; passes = h; writings = λ w i. inr (in_right w (met_faults (target_faults g mode x ++ faults g v)) (met_writings g mode blocking false k x) i) }
+      record { scope = g; to = x; blocking = blocking; value = v; node = n; known = known; target_sound = b.0; value_sound = b.1; passes = h; writings = λ w i. inr (inr (in_right w (met_faults (target_faults g mode x ++ faults g v)) (met_writings g mode blocking false k x) i)) }
   found_set P stays base g mode k f (system_task p) l n known free h = absurd (false≢true h)
   found_set P stays base g mode k f (null_statement p) l n known free h = absurd (false≢true h)
 

@@ -10,7 +10,7 @@ use Rattle.elab_const.specs.Cases.{with_arms, with_labels}
 use Rattle.elab_const.specs.Meaning.{common_shape, shape_as}
 use Rattle.elab_const.specs.Scope.{IsWidth}
 use Rattle.elab_const.specs.declared.width.Shape.{Shape}
-use Rattle.flat_design.specs.Bodies.{Met, met_faults, met_statement, met_turns, met_writings, in_turn, met, all_met, items_met, statement, statements, arms, turn_stmts, case_shape, label_terms}
+use Rattle.flat_design.specs.Bodies.{Met, met_faults, met_statement, met_text, met_turns, met_writings, in_turn, met, all_met, items_met, statement, statements, arms, turn_stmts, case_shape, label_terms}
 use Rattle.flat_design.specs.Expressions.{all_faults, faults}
 use Rattle.flat_design.specs.Fault.{none}
 use Rattle.flat_design.specs.Loops as loops
@@ -137,14 +137,14 @@ module _ (d : Design) (base : ℕ) (base_is : base ≡ length d.signals) where
     pub body_shaped : (g : Scope) → IsGoodScope d.signals d.memories g → HasWidths g → (mode : Mode) (k : ℕ) (s : Statement) → AreFit (body_literals s) → IsFree (met g mode k s) → (l n : ℕ) → is_body d (statement base g s l n) ≡ true
     body_shaped g good wide mode k (sequential_block p ss) fit free l n = bodies_shaped g good wide mode k ss fit (behind (met_statement p) _ free) l n
     body_shaped g good wide mode k (if_statement p c s other) fit free l n =
-        let rest = behind (met_statement p) (met_faults (faults g c) ++ met g mode k s ++ all_met g mode k other) free in
+        let rest = behind _ (met_faults (faults g c) ++ met g mode k s ++ all_met g mode k other) (behind (met_statement p) _ free) in
         let a = free_parts (met_faults (faults g c) ++ met g mode k s) (all_met g mode k other) rest in
         let b = free_parts (met_faults (faults g c)) (met g mode k s) a.0 in
         both_true _ _ (both_true _ _ (sound_condition d base base_is g good wide c (fit_first (literals c) (body_literals s) (bodies_literals other) fit) (ap none (free_faults (faults g c) b.0)) n)
         (body_shaped g good wide mode k s (fit_second (literals c) (body_literals s) (bodies_literals other) fit) b.1 (l + 1) (n + condition_nodes g c)))
         (bodies_shaped g good wide mode k other (fit_third (literals c) (body_literals s) (bodies_literals other) fit) a.1 (l + 1 + lines s) (n + condition_nodes g c + statement_nodes g s))
     body_shaped g good wide mode k (case_statement p kind e is) fit free l n =
-        let rest = behind (met_statement p) (met_faults (faults g e) ++ items_met g mode k is) free in
+        let rest = behind _ (met_faults (faults g e) ++ items_met g mode k is) (behind (met_statement p) _ free) in
         let a = free_parts (met_faults (faults g e)) (items_met g mode k is) rest in
         let sound : none (faults g e) ≡ true = ap none (free_faults (faults g e) a.0) in
         let fit_e = fit_left (literals e) (items_literals is) fit in
@@ -158,12 +158,13 @@ module _ (d : Design) (base : ℕ) (base_is : base ≡ length d.signals) where
         (both_true _ _ (shaped d base base_is g good wide e fit_e sound n c small) (arms_shaped g good wide mode k is fit_is a.1 c small (l + 1) (n + nodes g e)))
     body_shaped g good wide mode k (for_loop p h s) fit free l n =
         let turns : List Met = met_turns (loops.turns g h) (λ v. met (in_turn h v g) mode k s) in
-        let rest = behind (met_statement p) (met_faults (loops.turn_faults g h) ++ turns) free in
-        let a = free_parts (met_faults (loops.turn_faults g h)) turns rest in
+        let text : Met = met_text h.place (loops.turns_size g h) in
+        let rest = behind (met_statement p) (met_faults (loops.turn_faults g h) ++ text ∷ turns) free in
+        let a = free_parts (met_faults (loops.turn_faults g h)) (text ∷ turns) rest in
         turns_shaped d (loops.turns g h) (λ v. statement base (in_turn h v g) s (l + 1) n)
-        (λ v v_in. body_shaped (in_turn h v g) (good_turn d.signals d.memories g h v good (free_faults (loops.turn_faults g h) a.0)) (turn_widths g h v wide (turn_width g h v v_in)) mode k s fit (turn_free (loops.turns g h) (λ w. met (in_turn h w g) mode k s) v v_in a.1) (l + 1) n)
+        (λ v v_in. body_shaped (in_turn h v g) (good_turn d.signals d.memories g h v good (free_faults (loops.turn_faults g h) a.0)) (turn_widths g h v wide (turn_width g h v v_in)) mode k s fit (turn_free (loops.turns g h) (λ w. met (in_turn h w g) mode k s) v v_in (behind text turns a.1)) (l + 1) n)
     body_shaped g good wide mode k (assignment p x blocking v) fit free l n =
-        let rest = behind (met_statement p) (met_faults (target_faults g mode x ++ faults g v) ++ met_writings g mode blocking false k x) free in
+        let rest = behind _ (met_faults (target_faults g mode x ++ faults g v) ++ met_writings g mode blocking false k x) (behind (met_statement p) _ free) in
         let a = free_parts (met_faults (target_faults g mode x ++ faults g v)) (met_writings g mode blocking false k x) rest in
         let b = both_empty (target_faults g mode x) (faults g v) (free_faults (target_faults g mode x ++ faults g v) a.0) in
         assignment_shaped g good wide mode x v (fit_left (literals x) (literals v) fit) (fit_right (literals x) (literals v) fit) (ap none b.0) (ap none b.1) n (n + nodes g x)

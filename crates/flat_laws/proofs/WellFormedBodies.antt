@@ -7,7 +7,7 @@ use Rattle.design_model.specs.Tree.{Stmt}
 use Rattle.design_model.specs.WellFormed.{are_well_formed, are_well_formed_arms, are_well_formed_bodies, is_well_formed, is_well_formed_body, is_well_formed_target}
 use Rattle.verilog_tree.specs.Tree.{Expr, Exprs, no_exprs, an_expr, Header, Statement, sequential_block, if_statement, case_statement, for_loop, assignment, system_task, null_statement, Statements, no_statements, a_statement, CaseItems, no_items, case_item}
 use Rattle.elab_const.specs.declared.width.Shape.{Shape}
-use Rattle.flat_design.specs.Bodies.{Met, met_faults, met_statement, met_turns, met_writings, in_turn, met, all_met, items_met, statement, statements, arms, turn_stmts, case_shape, label_terms}
+use Rattle.flat_design.specs.Bodies.{Met, met_faults, met_statement, met_text, met_turns, met_writings, in_turn, met, all_met, items_met, statement, statements, arms, turn_stmts, case_shape, label_terms}
 use Rattle.flat_design.specs.Expressions.{all_faults, faults}
 use Rattle.flat_design.specs.Fault.{none}
 use Rattle.flat_design.specs.Identifiers.{base_name}
@@ -58,25 +58,26 @@ module _ (d : Design) (base : ℕ) (base_is : base ≡ length d.signals) where
     pub body_well : (g : Scope) → IsGoodScope d.signals d.memories g → HasWidths g → HasBoundedSignals g → (mode : Mode) (k : ℕ) (s : Statement) → AreFit (body_literals s) → IsFree (met g mode k s) → (l n : ℕ) → is_well_formed_body d (statement base g s l n) ≡ true
     body_well g good wide bounded mode k (sequential_block p ss) fit free l n = bodies_well g good wide bounded mode k ss fit (behind (met_statement p) _ free) l n
     body_well g good wide bounded mode k (if_statement p c s other) fit free l n =
-        let rest = behind (met_statement p) (met_faults (faults g c) ++ met g mode k s ++ all_met g mode k other) free in
+        let rest = behind _ (met_faults (faults g c) ++ met g mode k s ++ all_met g mode k other) (behind (met_statement p) _ free) in
         let a = free_parts (met_faults (faults g c) ++ met g mode k s) (all_met g mode k other) rest in
         let b = free_parts (met_faults (faults g c)) (met g mode k s) a.0 in
         both_true _ _ (condition_term_well d base base_is g good c (ap none (free_faults (faults g c) b.0)) n)
         (both_true _ _ (body_well g good wide bounded mode k s (fit_second (literals c) (body_literals s) (bodies_literals other) fit) b.1 (l + 1) (n + condition_nodes g c))
         (bodies_well g good wide bounded mode k other (fit_third (literals c) (body_literals s) (bodies_literals other) fit) a.1 (l + 1 + lines s) (n + condition_nodes g c + statement_nodes g s)))
     body_well g good wide bounded mode k (case_statement p kind e is) fit free l n =
-        let rest = behind (met_statement p) (met_faults (faults g e) ++ items_met g mode k is) free in
+        let rest = behind _ (met_faults (faults g e) ++ items_met g mode k is) (behind (met_statement p) _ free) in
         let a = free_parts (met_faults (faults g e)) (items_met g mode k is) rest in
         both_true _ _ (well d base base_is g good e (ap none (free_faults (faults g e) a.0)) n (case_shape g e is))
         (arms_well g good wide bounded mode k is (fit_right (literals e) (items_literals is) fit) a.1 (case_shape g e is) (l + 1) (n + nodes g e))
     body_well g good wide bounded mode k (for_loop p h s) fit free l n =
         let turns : List Met = met_turns (loops.turns g h) (λ v. met (in_turn h v g) mode k s) in
-        let rest = behind (met_statement p) (met_faults (loops.turn_faults g h) ++ turns) free in
-        let a = free_parts (met_faults (loops.turn_faults g h)) turns rest in
+        let text : Met = met_text h.place (loops.turns_size g h) in
+        let rest = behind (met_statement p) (met_faults (loops.turn_faults g h) ++ text ∷ turns) free in
+        let a = free_parts (met_faults (loops.turn_faults g h)) (text ∷ turns) rest in
         turns_well d (loops.turns g h) (λ v. statement base (in_turn h v g) s (l + 1) n)
-        (λ v v_in. body_well (in_turn h v g) (good_turn d.signals d.memories g h v good (free_faults (loops.turn_faults g h) a.0)) (turn_widths g h v wide (turn_width g h v v_in)) (turn_bounded g h v bounded) mode k s fit (turn_free (loops.turns g h) (λ w. met (in_turn h w g) mode k s) v v_in a.1) (l + 1) n)
+        (λ v v_in. body_well (in_turn h v g) (good_turn d.signals d.memories g h v good (free_faults (loops.turn_faults g h) a.0)) (turn_widths g h v wide (turn_width g h v v_in)) (turn_bounded g h v bounded) mode k s fit (turn_free (loops.turns g h) (λ w. met (in_turn h w g) mode k s) v v_in (behind text turns a.1)) (l + 1) n)
     body_well g good wide bounded mode k (assignment p x blocking v) fit free l n =
-        let rest = behind (met_statement p) (met_faults (target_faults g mode x ++ faults g v) ++ met_writings g mode blocking false k x) free in
+        let rest = behind _ (met_faults (target_faults g mode x ++ faults g v) ++ met_writings g mode blocking false k x) (behind (met_statement p) _ free) in
         let a = free_parts (met_faults (target_faults g mode x ++ faults g v)) (met_writings g mode blocking false k x) rest in
         let b = both_empty (target_faults g mode x) (faults g v) (free_faults (target_faults g mode x ++ faults g v) a.0) in
         assignment_well g good wide bounded mode x v (fit_left (literals x) (literals v) fit) (ap none b.0) (ap none b.1) n (n + nodes g x)

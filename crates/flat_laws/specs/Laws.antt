@@ -1,4 +1,4 @@
--- What holds of the definitions: how line points and counted nodes are numbered, and what constants and turns are.
+-- What holds of the definitions: how line points and counted nodes are numbered, what constants and turns are, and how much text is gone through.
 use Rattle.std.specs.Prelude.{◌≡◌, ℕ, ◌+◌, ◌<◌, ◌≤◌, true, List, [], ◌∷◌, None}
 use Rattle.event_machine.specs.Cell.{Values}
 use Rattle.four_state.specs.Vector.{Vector}
@@ -12,7 +12,7 @@ use Rattle.elab_const.specs.Faults.{fault_of, is_constant}
 use Rattle.elab_const.specs.Meaning.{meaning, vector_in}
 use Rattle.elab_const.specs.Scope as constants
 use Rattle.elab_const.specs.declared.width.Shape.{Shape}
-use Rattle.flat_design.specs.Bodies.{statement}
+use Rattle.flat_design.specs.Bodies.{Met, met_text, statement}
 use Rattle.flat_design.specs.Numbering.{lines, statement_nodes}
 use Rattle.flat_design.specs.Scope.{Scope, is_thing_entry, look_up, names, with_turn}
 use Rattle.flat_design.specs.Terms.{term}
@@ -43,3 +43,8 @@ ConstantLaw g e =
 -- in a turn the names that have a value are those of the scope, and the variable with the value of the turn
 abbrev pub TurnLaw : Scope → Type 0
 TurnLaw g = (x y : List ℕ) (v : Vector) → names (with_turn x v g) y ≡ constants.with_turn x v (names g) y
+
+-- how much text was met
+abbrev pub text_count : Met → ℕ
+text_count (met_text p n) = n
+text_count _ = 0

@@ -2,19 +2,21 @@
 //!
 //! A design is answered only where there is no fault, and the fault that is answered is the first one
 //! ([`first_fault_law`]). A design that is answered is lawful ([`lawful_law`]), which is what everything above
-//! assumes of a design. The other functions state that line points are numbered one after the other, that turns of a
-//! loop count the same nodes, that the term of a constant has its value, and that a turn changes the loop's variable
-//! alone. `proofs/` has worked texts, whose designs and faults are computed from the definitions.
+//! assumes of a design, and the text that elaboration goes through for it is within a limit ([`text_law`]). The other
+//! functions state that line points are numbered one after the other, that turns of a loop count the same nodes, that
+//! the term of a constant has its value, and that a turn changes the loop's variable alone. `proofs/` has worked texts,
+//! whose designs and faults are computed from the definitions.
 #![tactic(auto)]
 
-ghost use Rattle.std.specs.Prelude.{ℕ, ◌≡◌, List, Ok, Err};
+ghost use Rattle.std.specs.Prelude.{ℕ, ◌≡◌, ◌≤◌, List, Ok, Err, sum_by};
 ghost use Rattle.design_model.specs.Design.{Design};
 ghost use Rattle.design_model.specs.Lawful.{IsLawfulDesign};
 ghost use Rattle.verilog_tree.specs.Tree.{Expr, Module, Statement};
 ghost use Rattle.flat_design.specs.Fault.{Fault, IsFirst};
 ghost use Rattle.flat_design.specs.Faults.{Stands, answer, faults_of};
+ghost use Rattle.flat_design.specs.Flat.{elaborated};
 ghost use Rattle.flat_design.specs.Scope.{Scope};
-ghost use Rattle.flat_laws.specs.Laws.{ConstantLaw, LineLaw, NodeLaw, TurnLaw};
+ghost use Rattle.flat_laws.specs.Laws.{ConstantLaw, LineLaw, NodeLaw, TurnLaw, text_count};
 ghost use Rattle.flat_laws.specs.Tokens.{AreOfTokens};
 
 /// A design is answered only where there is no fault. A fault that is answered is there, and no other fault goes before
@@ -28,6 +30,12 @@ pub fn first_fault_law()
 /// Each design that is answered for the trees of tokens is lawful.
 pub fn lawful_law()
     ensures { (ms : List Module) (top : List ℕ) (d : Design) → AreOfTokens ms → answer ms top ≡ Ok d → IsLawfulDesign d }
+{}
+
+/// The text that elaboration goes through for a design that is answered has at most 134,217,728 parts: of each module once
+/// for each instance, and of each statement once for each turn of the loops around it.
+pub fn text_law()
+    ensures { (ms : List Module) (top : List ℕ) (d : Design) → answer ms top ≡ Ok d → sum_by text_count (elaborated ms top).met ≤ 134217728 }
 {}
 
 /// The line points of a flat statement have the numbers from the first on, as many as the statement has line points.

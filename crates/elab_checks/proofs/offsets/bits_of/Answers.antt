@@ -1,15 +1,11 @@
-use Rattle.std.proofs.Common.{◌≡◌, ◌∙◌, sym, ap, subst, Some, pos, true}
-use Rattle.design_model.specs.Value.{offset, slide_offset}
-use Rattle.elab_const.specs.Faults.{is_bad_bound}
-use Rattle.elab_const.specs.Meaning.{number_of}
-use Rattle.elab_const.specs.Scope.{IsWidth}
+use Rattle.std.proofs.Common.{◌∙◌, sym, ap, Some, pos}
+use Rattle.design_model.specs.Value.{offset}
 use Rattle.verilog_tree.proofs.ExprViews.{bit_view, part_view, slide_view}
-use Rattle.flat_design.specs.Expressions.{faults, is_inside, some_offset}
+use Rattle.flat_design.specs.Expressions.{faults, is_inside}
 use Rattle.flat_design.specs.Fault.{none}
 use Rattle.flat_design.specs.Identifiers.{base_name}
-use Rattle.flat_design.specs.Scope.{binding_of, look_up, names, names_constants, names_faulty, natural_number, range_or, shape, whole_number}
+use Rattle.flat_design.specs.Scope.{binding_of, look_up, names_faulty, natural_number, range_or, shape}
 use Rattle.verilog_tree.specs.View.{expr_view}
-use Rattle.elab_checks.specs.Selected.{contains}
 use Rattle.elab_checks.proofs.OffsetLemmas.{sound_bit, sound_part, sound_slide}
 use Rattle.elab_checks.proofs.offsets.bits_of.Goals as goal
 

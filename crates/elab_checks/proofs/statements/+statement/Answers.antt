@@ -1,23 +1,24 @@
-use Rattle.std.proofs.Common.{◌≡◌, ◌+◌, ◌∷◌, ◌++◌, append-nil, sym, ap, ◌∙◌, arith, drop}
+use Rattle.std.proofs.Common.{◌≡◌, ◌+◌, [], ◌∷◌, ◌++◌, append-nil, append_assoc, sym, ap, ◌∙◌, arith, drop}
 use Rattle.std.specs.Prelude.{List}
 use Rattle.std.proofs.lemmas.List.{at_drop_all}
 use Rattle.four_state.specs.Vector.{Vector}
+use Rattle.tree_sizes.specs.Sizes.{labels_size, size}
 use Rattle.verilog_tree.specs.Tree.{arms_of, exprs_of, statements_of}
 use Rattle.verilog_tree.specs.View.{arms_view, expr_view, exprs_view, loop_view, statement_view, statements_view}
 use Rattle.verilog_tree.specs.declared.statement.Arm.{out-Arm}
 use Rattle.verilog_tree.specs.declared.statement.For.{out-For}
 use Rattle.verilog_tree.specs.declared.statement.StatementForm as form
-use Rattle.flat_design.specs.Bodies.{Met, all_met, in_turn, items_met, met, met_faults, met_statement, met_turns}
+use Rattle.flat_design.specs.Bodies.{Met, all_met, in_turn, items_met, met, met_faults, met_statement, met_text, met_turns}
 use Rattle.flat_design.specs.Expressions.{all_faults, faults}
 use Rattle.flat_design.specs.Identifiers.{base_name}
 use Rattle.flat_design.specs.Loops as loops
 use Rattle.flat_design.specs.Scope.{binding_of, with_entry}
 use Rattle.flat_design.specs.declared.entry.Entry.TheVariants.{Turn}
 use Rattle.elab_scope.specs.Tally.{after_all, after_faults}
-use Rattle.elab_scope.proofs.TallyLemmas.{after_all-append, after_all-faults, after_all_ended}
+use Rattle.elab_scope.proofs.TallyLemmas.{after_all-append, after_all_ended}
 use Rattle.elab_checks.specs.Turns.{restored}
 use Rattle.elab_checks.proofs.RestoredLemmas.{restored_same, same_itself, same_with, with_same}
-use Rattle.elab_checks.proofs.StatementLemmas.{all_next, all_then, flat_map_next, ok_along, on_ok}
+use Rattle.elab_checks.proofs.StatementLemmas.{all_next, all_then, flat_map_next, front_met, ok_along, on_ok}
 use Rattle.verilog_tree.proofs.StatementViews.{arms_from, body_view, case_view, if_else_view, if_view, statements_from}
 use Rattle.elab_checks.proofs.statements.+statement.Goals as goal
 use Rattle.elab_checks.proofs.statements.+statement.Goals.{check_turns-else-loop-value-test, check_turns-then-loop-value-test+then-is_ended}
@@ -33,8 +34,9 @@ check_statement-returns-in-Some-clause-met t c =
     let fs = faults g (expr_view c.in-If.test) in
     let yes = met g c.args.mode c.args.process (statement_view c.in-If.yes) in
     let other = met g c.args.mode c.args.process (statement_view c.in-Some.no) in
-    let front = met_statement s.place ∷ met_faults fs in
-    let tested : c.check.new.tally ≡ after_all c.args.tally.now front = c.check.ensures.met ∙ ap (λ u. after_faults u fs) c.statement.ensures in
+    let text = met_text s.place (size (expr_view c.in-If.test)) in
+    let front = met_statement s.place ∷ text ∷ met_faults fs in
+    let tested : c.check.new.tally ≡ after_all c.args.tally.now front = front_met c.args.tally.now c.statement.new.self c.expression.new.self c.check.new.tally (met_statement s.place) text fs c.statement.ensures c.expression.ensures c.check.ensures.met in
     let first : c.check_statement.new.tally ≡ after_all c.args.tally.now (front ++ yes) = all_then c.args.tally.now c.check.new.tally c.check_statement.new.tally front yes tested c.in_ok-check_statement-in-If.ensures.met in
     let view = if_else_view s c.in-If.test c.in-If.yes c.in-Some.no ((sym c.deref.ensures ∙ c.in-If.is) ∙ ap (form.If c.in-If.test c.in-If.yes) c.in-Some.is) in
     let last = rw c.in_ok-check_statement-in-If.ensures.kept at c.check_statement-in-Some.ensures.met in
@@ -48,8 +50,9 @@ check_statement-returns-in-None-clause-met t c =
     let s = c.args.statement.now in
     let fs = faults g (expr_view c.in-If.test) in
     let yes = met g c.args.mode c.args.process (statement_view c.in-If.yes) in
-    let front = met_statement s.place ∷ met_faults fs in
-    let tested : c.check.new.tally ≡ after_all c.args.tally.now front = c.check.ensures.met ∙ ap (λ u. after_faults u fs) c.statement.ensures in
+    let text = met_text s.place (size (expr_view c.in-If.test)) in
+    let front = met_statement s.place ∷ text ∷ met_faults fs in
+    let tested : c.check.new.tally ≡ after_all c.args.tally.now front = front_met c.args.tally.now c.statement.new.self c.expression.new.self c.check.new.tally (met_statement s.place) text fs c.statement.ensures c.expression.ensures c.check.ensures.met in
     let first : c.check_statement.new.tally ≡ after_all c.args.tally.now (front ++ yes) = all_then c.args.tally.now c.check.new.tally c.check_statement.new.tally front yes tested c.in_ok-check_statement-in-If.ensures.met in
     let view = if_view s c.in-If.test c.in-If.yes ((sym c.deref.ensures ∙ c.in-If.is) ∙ ap (form.If c.in-If.test c.in-If.yes) c.in-None.is) in
     first ∙ ap (after_all c.args.tally.now) (sym (append-nil (front ++ yes))) ∙ ap (λ x. after_all c.args.tally.now (met g c.args.mode c.args.process x)) (sym view)
@@ -60,10 +63,12 @@ check_statement-returns-in-Case-clause-met t c =
     let s = c.args.statement.now in
     let fs = faults g (expr_view c.in-Case.on) in
     let arms = items_met g c.args.mode c.args.process (arms_of (arms_view c.in-Case.arms.items)) in
-    let front = met_statement s.place ∷ met_faults fs in
-    let tested : c.check-in-Case.new.tally ≡ after_all c.args.tally.now front = c.check-in-Case.ensures.met ∙ ap (λ u. after_faults u fs) c.statement.ensures in
+    let text = met_text s.place (size (expr_view c.in-Case.on) + labels_size (arms_of (arms_view c.in-Case.arms.items))) in
+    let front = met_statement s.place ∷ text ∷ met_faults fs in
+    let counted = rw c.deref-in-Case.ensures.value at c.case.ensures in
+    let tested : c.check-in-Case.new.tally ≡ after_all c.args.tally.now front = front_met c.args.tally.now c.statement.new.self c.case.new.self c.check-in-Case.new.tally (met_statement s.place) text fs c.statement.ensures counted c.check-in-Case.ensures.met in
     let view = case_view s c.in-Case.kind c.in-Case.on c.in-Case.arms (sym c.deref.ensures ∙ c.in-Case.is) in
-    let last = rw c.deref-in-Case.ensures.value at c.check_arms.ensures.met in
+    let last = rw c.deref-in-Case-2.ensures.value at c.check_arms.ensures.met in
     let whole : after_all c.check-in-Case.new.tally arms ≡ after_all c.args.tally.now (met g c.args.mode c.args.process (statement_view s)) =
     ap (λ u. after_all u arms) tested ∙ sym (after_all-append c.args.tally.now front arms) ∙ ap (λ x. after_all c.args.tally.now (met g c.args.mode c.args.process x)) (sym view) in
     ok_along c.check_arms.result c.check_arms.new.tally (after_all c.check-in-Case.new.tally arms) _ whole last
@@ -136,7 +141,9 @@ check_turns-returns-clause-met t c =
       | check_turns-else-loop-value-test w ↦ sym (at_drop_all (λ vs. after_all c.loop-value.tally (met_turns vs each)) vs i (omega arith)) ∙ c.loop-value.invariant.met
       | check_turns-then-loop-value-test+then-is_ended w ↦ sym (after_all_ended c.loop-value.tally (met_turns (drop i vs) each) (sym w.is_ended.ensures ∙ w.if-is_ended.true)) ∙ c.loop-value.invariant.met
     ] in
-    on_ok c.put_back.result (done ∙ ap (λ u. after_all u turns) c.in_ok-values.ensures.met ∙ sym (after_all-faults c.args.tally.now (loops.turn_faults g h) turns))
+    let told = met_faults (loops.turn_faults g h) in
+    let text = met_text h.place (loops.turns_size g h) in
+    on_ok c.put_back.result (all_then c.args.tally.now c.turns.new.tally c.loop-value.tally (told ++ text ∷ []) turns c.in_ok-values.ensures.met done ∙ ap (after_all c.args.tally.now) (append_assoc told (text ∷ []) turns))
 
 pub check_turns-returns-clause-kept : goal.check_turns-returns-clause-kept
 check_turns-returns-clause-kept t c =
