@@ -1,6 +1,7 @@
 //! `covered`: verified code coverage for Verilog from value change dumps.
 //!
-//! What it does is in [`covered_program::run`]. Its stored run scores a dump with status 0 and prints nothing.
+//! What it does is in [`covered_program::run`]. Its stored run makes a design and a dump,
+//! scores them and prints the counts.
 #![tactic(auto)]
 
 use covered_program::run;

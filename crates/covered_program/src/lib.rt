@@ -1,7 +1,7 @@
 //! The program over the system: [`run`] is all that the main of a program crate does.
 //!
 //! It passes the words of the command line and the system to [`covered_cli::covered`], whose clauses say what it does, and ends with the status
-//! that this gives. The crates `covered`, `covered_report` and `covered_refusal` run it.
+//! that this gives. The crates `covered` and `covered_refusal` run it.
 #![tactic(auto)]
 
 ghost use Rattle.std.specs.Prelude.{◌≡◌, ◌↔◌};
