@@ -1,7 +1,7 @@
 #!/usr/bin/env python3
 """Processor time of the gate, by crate: of proofs, tests and wrong bodies.
 
-    bench/gate.py            runs `rt ci --anew` in this repository, and prints a table when it ends
+    bench/gate.py            runs the gate from nothing in this repository, and prints a table when it ends
     bench/gate.py --pid PID  watches a run of `rt ci` that has begun
 
 The processes below the run are looked at twice a second. Times are user and system time in seconds; what a process
@@ -59,11 +59,17 @@ def kind_of(pid):
     return (crate, "tests" if "--test" in words else "proof")
 
 
+def from_nothing():
+    """What has `rt ci` prove all again: a kit that keeps what has passed takes a word for it, and others keep nothing."""
+    said = subprocess.run(["rt", "help"], capture_output=True, text=True, check=False)
+    return ["--anew"] if "--anew" in said.stdout + said.stderr else []
+
+
 def main():
     if sys.argv[1:2] == ["--pid"]:
         root, run = int(sys.argv[2]), None
     else:
-        run = subprocess.Popen(["rt", "ci", "--anew"])
+        run = subprocess.Popen(["rt", "ci", *from_nothing()])
         root = run.pid
     begun, seconds, kinds = time.time(), {}, {}
     while (run.poll() is None) if run else os.path.exists(f"/proc/{root}"):
