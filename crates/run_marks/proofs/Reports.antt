@@ -16,7 +16,7 @@ use Rattle.design_model.specs.declared.point.Point.{Point}
 use Rattle.design_model.specs.declared.point.Point.TheVariants as point
 use Rattle.mark_laws.specs.Marked.{AreVerdicts, verdict_at}
 use Rattle.mark_laws.specs.Numbered.{doubt_of, visit_at}
-use Rattle.mark_laws.proofs.Marked.{doubt_set, hit_set, other_kept}
+use Rattle.mark_laws.proofs.Marked.{doubt_set, hit_set}
 use Rattle.mark_laws.proofs.Verdicts.{visit_of_key}
 use Rattle.point_marks.specs.Marking.{with_doubt}
 use Rattle.point_marks.specs.declared.verdict.Doubt.{Doubt}
@@ -81,11 +81,7 @@ module _ (s : RunStart) (ns : List Note) (n : Note) (vs : List Verdict) (h : Rep
       let e : (s.earlier ++ markings_by s.process ns) ++ marking_by s.process n ∷ [] ≡ s.earlier ++ markings_by s.process (ns ++ n ∷ []) = append_assoc s.earlier (markings_by s.process ns) (marking_by s.process n ∷ []) ∙ ap (λ (xs : List Marking). s.earlier ++ xs) (sym (markings_more s.process ns n)) in
       subst (λ (xs : List Marking). AreVerdicts s.design s.points xs ws) e (f right (h right r.0) r.1)
 
-  -- a spot of no point
-  pub none_more : ((k : ℕ) → IsVisitOf s.points k (visit_at s.process n.spot) → ⊥) → Reports s (ns ++ n ∷ []) vs
-  none_more none = longer vs (λ right v own. other_kept s.design s.points (s.earlier ++ markings_by s.process ns) (marking_by s.process n) vs v (λ k l key. none k (l, visit_of_key s.design (point_at s.points k) s.process n.spot key)))
-
-  -- a spot of a point that is hit already
+  -- a spot of a point that is hit already, or of no point
   pub settled_more : ((k : ℕ) → IsVisitOf s.points k (visit_at s.process n.spot) → verdict_at vs k ≡ Hit) → Reports s (ns ++ n ∷ []) vs
   settled_more hit = longer vs (λ right v own. verdicts_stay s.design s.points (s.earlier ++ markings_by s.process ns) (marking_by s.process n) vs v (λ k l key. hit k (l, visit_of_key s.design (point_at s.points k) s.process n.spot key)))
 
@@ -145,12 +141,4 @@ module _ (p : ℕ) (ps : Points) (m after : Marks) (spot : SpotNow) (s : RunStar
     points = h.points;
     marks = h.marks;
     verdicts = settled_more s ns (note_of spot doubt) m.verdicts h.verdicts (λ k at. hit marks_back k (visit_back k at));
-  }
-
-  pub reports_nothing : (doubt : Option RunDoubt) → (AreMarksOf ps m → (k : ℕ) → IsVisitOf ps k (visit_at p (spot_of spot)) → ⊥) → HasReported s (ns ++ note_of spot doubt ∷ []) p ps m
-  reports_nothing doubt none = record {
-    process = h.process;
-    points = h.points;
-    marks = h.marks;
-    verdicts = none_more s ns (note_of spot doubt) m.verdicts h.verdicts (λ k at. none marks_back k (visit_back k at));
   }

@@ -6,7 +6,7 @@ ghost use Rattle.cover_points.specs.Listed.{points_of};
 ghost use Rattle.run_marks.specs.Reported.{HasListed, RunStart};
 ghost use Rattle.written_words.specs.Written.{WrittenState};
 
-use crate::spots::{find, is_settled};
+use crate::spots::{find_open, is_settled};
 use block_runs::{BlockNotes, Doubt};
 use cover_marks::Marks;
 use cover_points::Points;
@@ -44,8 +44,9 @@ impl<'a> BlockNotes for MarkNotes<'a> {
 impl<'a> MarkNotes<'a> {
     ghost use Rattle.run_marks.specs.Reported.{HasReported};
 
-    /// Marks the point of a spot, if there is one. All that is noted of lines and nodes of a process is left out once its points
-    /// are hit, since a hit stays.
+    /// Marks the point of a spot, if there is one that is not hit yet. A point that was hit stays hit, whatever is noted of it: so
+    /// all that is noted of lines and nodes of a process is left out once its points are hit, and where the point with the number
+    /// of a spot is hit, its record need not be read to see whether it is the point of this spot.
     fn mark(&mut self, spot: Spot, doubt: Option<Doubt>)
         ensures process { self.new.process ≡ self.old.process }
         ensures points { self.new.points.now ≡ self.old.points.now }
@@ -55,7 +56,7 @@ impl<'a> MarkNotes<'a> {
         if is_settled(&self.marks, self.process, spot) {
             return;
         }
-        if let Some(point) = find(self.points, &self.marks, self.process, spot) {
+        if let Some(point) = find_open(self.points, &self.marks, self.process, spot) {
             match doubt {
                 None => self.marks.hit(point),
                 Some(doubt) => self.marks.doubt(point, doubt.thing, doubt.time),

@@ -1,7 +1,8 @@
 //! The point of a spot of a body.
 
-ghost use Rattle.std.specs.Prelude.{◌≡◌, ◌↔◌, ◌+◌, ℕ, None, Some, IsTrue, length};
+ghost use Rattle.std.specs.Prelude.{◌≡◌, ◌≢◌, ◌↔◌, ◌<◌, ◌+◌, ℕ, None, Some, IsTrue, length};
 ghost use Rattle.term_replay.specs.Noted.{spot_of};
+ghost use Rattle.cover_points.specs.Listed.{points_of};
 ghost use Rattle.cover_points.specs.Visits.{IsVisitOf};
 ghost use Rattle.cover_points.specs.declared.listing.Points.{Points as ThePoints};
 ghost use Rattle.cover_points.specs.declared.visit.Visit.TheVariants.{Line, Node};
@@ -11,7 +12,7 @@ ghost use Rattle.mark_laws.specs.Numbered.{visit_at};
 ghost use Rattle.point_marks.specs.declared.verdict.Verdict.TheVariants.{Hit};
 ghost use Rattle.run_marks.specs.Reported.{word_visit};
 
-use cover_marks::Marks;
+use cover_marks::{Marks, Verdict};
 use cover_points::{IndexPoint, Points, Visit};
 use design_model::NodeCase;
 use term_replay::Spot;
@@ -29,18 +30,55 @@ pub(crate) fn is_settled(marks: &Marks, process: u32, spot: Spot) -> bool
     }
 }
 
-/// The number of the point of a spot of a process, if there is one. It takes constant time and no memory.
+/// The number of the point of a spot of a process, if there is one that is not hit yet. The record of the point with the number is
+/// read only where it is not hit. It takes constant time and no memory.
 #[tactic(auto, using(crate::proofs::Reports::found_at))]
-pub(crate) fn find(points: &Points, marks: &Marks, process: u32, spot: Spot) -> Option<u32>
+pub(crate) fn find_open(points: &Points, marks: &Marks, process: u32, spot: Spot) -> Option<u32>
+    requires { length marks.now.verdicts ≡ length (points_of points.now) }
     ensures found { (k : ℕ) → result ≡ Some k → IsVisitOf points.now k (visit_at process (spot_of spot)) }
-    ensures none { result ≡ None → AreMarksOf points.now marks.now → (k : ℕ) → IsVisitOf points.now k (visit_at process (spot_of spot)) → ⊥ }
+    ensures open { (k : ℕ) → result ≡ Some k → verdict_at marks.now.verdicts k ≢ Hit }
+    ensures none { result ≡ None → AreMarksOf points.now marks.now → (k : ℕ) → IsVisitOf points.now k (visit_at process (spot_of spot)) → verdict_at marks.now.verdicts k ≡ Hit }
 {
     let number = number_of(marks, process, spot);
-    if is_point(points, number, process, spot) {
+    if is_hit(points, marks, number) {
+        None
+    } else if is_point(points, number, process, spot) {
         Some(number)
     } else {
         None
     }
+}
+
+/// Whether there is a point with this number, and it is hit.
+fn is_hit(points: &Points, marks: &Marks, number: u32) -> bool
+    requires { length marks.now.verdicts ≡ length (points_of points.now) }
+    ensures { IsTrue result ↔ (verdict_at marks.now.verdicts number ≡ Hit) }
+{
+    is_listed(points, number) && is_of_hit(marks.verdict(number))
+}
+
+/// Whether a verdict is that of a point which is hit.
+fn is_of_hit(verdict: Verdict) -> bool
+    ensures { IsTrue result ↔ (verdict ≡ Hit) }
+{
+    match verdict {
+        Verdict::Hit => true,
+        Verdict::Missed | Verdict::Undetermined(_) => false,
+    }
+}
+
+/// Whether there is a point with this number.
+fn is_listed(points: &Points, number: u32) -> bool
+    ensures { IsTrue result ↔ (number < length (points_of points.now)) }
+{
+    let count = points
+        .lines
+        .len()
+        .saturating_add(points.nodes.len())
+        .saturating_add(points.toggles.len())
+        .saturating_add(points.states.len())
+        .saturating_add(points.words.len());
+    (number as usize) < count
 }
 
 /// The number of the point of a spot of a process, and some number where there is none.

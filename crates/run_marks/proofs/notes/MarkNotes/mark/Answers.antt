@@ -2,7 +2,7 @@ use Rattle.std.proofs.Common.{Option, [], ◌∷◌, ◌++◌, refl, subst, sym}
 use Rattle.block_runs.specs.Notes.{note_of}
 use Rattle.block_runs.specs.declared.notes.Doubt.{Doubt}
 use Rattle.run_marks.specs.Reported.{HasReported}
-use Rattle.run_marks.proofs.Reports.{reports_doubt, reports_hit, reports_nothing, reports_settled}
+use Rattle.run_marks.proofs.Reports.{reports_doubt, reports_hit, reports_settled}
 use Rattle.run_marks.proofs.notes.MarkNotes.mark.Goals as goal
 
 pub returns-then-is_settled-clause-marked : goal.returns-then-is_settled-clause-marked
@@ -27,4 +27,4 @@ returns-in-Some-doubt-clause-marked c =
 pub returns-in_default-clause-marked : goal.returns-in_default-clause-marked
 returns-in_default-clause-marked c =
     let x = c.args.self.now in
-    λ s ns h. reports_nothing x.process x.points.now x.marks x.marks c.args.spot s ns h c.args.doubt (c.find.ensures.none c.in_default.is)
+    λ s ns h. reports_settled x.process x.points.now x.marks x.marks c.args.spot s ns h c.args.doubt (c.find_open.ensures.none c.in_default.is)
