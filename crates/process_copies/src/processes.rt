@@ -12,7 +12,7 @@ use std::alloc::Global;
 
 /// Copies of processes that lie in memory one after the other, each in the order in which its body is made: the bodies
 /// of a design are made between other values, and a run that walks them misses the caches.
-pub fn copies(alloc: Global, processes: &[Process]) -> Result<Sequence<Process>, NoMemory>
+pub(crate) fn copies(alloc: Global, processes: &[Process]) -> Result<Sequence<Process>, NoMemory>
     ensures { IfOk result (λ copies. map process_view copies ≡ map process_view processes.now) }
 {
     let mut copies = Vec::with_capacity(alloc, processes.len())?;

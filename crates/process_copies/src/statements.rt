@@ -17,33 +17,33 @@ use std::alloc::Global;
 pub(crate) fn copy_stmt(alloc: Global, stmt: &Stmt) -> Result<Stmt, NoMemory>
     ensures { IfOk result (λ copy. stmt_view copy ≡ stmt_view stmt.now) }
 {
-    let place = stmt.place;
+    let room = room_at(alloc, stmt.place)?;
     match &*stmt.form {
-        StmtForm::Block(parts) => at(alloc, place, StmtForm::Block(copy_stmts(alloc, parts)?)),
+        StmtForm::Block(parts) => Ok(filled(room, StmtForm::Block(copy_stmts(alloc, parts)?))),
         StmtForm::If {
             line,
             test,
             yes,
             no,
-        } => copy_branch(alloc, place, *line, no, test, yes),
+        } => copy_branch(alloc, no, room, *line, test, yes),
         StmtForm::Case {
             line,
             kind,
             on,
             arms,
-        } => copy_select(alloc, place, *line, *kind, arms, on),
+        } => copy_select(alloc, arms, room, *line, *kind, on),
         StmtForm::Turns { line, turns } => {
             let line = *line;
             let turns = copy_stmts(alloc, turns)?;
-            at(alloc, place, StmtForm::Turns { line, turns })
+            Ok(filled(room, StmtForm::Turns { line, turns }))
         }
         StmtForm::Set {
             line,
             blocking,
             target,
             value,
-        } => copy_set(alloc, place, *line, *blocking, target, value),
-        StmtForm::Empty => at(alloc, place, StmtForm::Empty),
+        } => copy_set(alloc, room, *line, *blocking, target, value),
+        StmtForm::Empty => Ok(room),
     }
 }
 
@@ -59,17 +59,17 @@ fn copy_stmts(alloc: Global, stmts: &[Stmt]) -> Result<Vec<Stmt>, NoMemory>
     Ok(copies)
 }
 
-/// A copy of an `if` at this place, with `else no` where there is one.
+/// A copy of an `if`, with `else no` where there is one.
 #[cycle(statements)]
 fn copy_branch(
     alloc: Global,
-    place: Place,
-    line: u32,
     no: &Option<Stmt>,
+    room: Stmt,
+    line: u32,
     test: &Term,
     yes: &Stmt,
 ) -> Result<Stmt, NoMemory>
-    ensures { IfOk result (λ copy. stmt_view copy ≡ t.branch place line (term_view test.now) (stmt_view yes.now) (other_view no.now)) }
+    ensures { IfOk result (λ copy. stmt_view copy ≡ t.branch room.place line (term_view test.now) (stmt_view yes.now) (other_view no.now)) }
 {
     let test = copy_term(alloc, test)?;
     let yes = copy_stmt(alloc, yes)?;
@@ -80,7 +80,7 @@ fn copy_branch(
         yes,
         no,
     };
-    at(alloc, place, form)
+    Ok(filled(room, form))
 }
 
 /// A copy of the `else` branch, where there is one.
@@ -94,17 +94,17 @@ fn copy_other(alloc: Global, other: &Option<Stmt>) -> Result<Option<Stmt>, NoMem
     }
 }
 
-/// A copy of a `case`, `casez` or `casex` at this place.
+/// A copy of a `case`, `casez` or `casex`.
 #[cycle(statements)]
 fn copy_select(
     alloc: Global,
-    place: Place,
+    arms: &[CaseArm],
+    room: Stmt,
     line: u32,
     kind: CaseKind,
-    arms: &[CaseArm],
     on: &Term,
 ) -> Result<Stmt, NoMemory>
-    ensures { IfOk result (λ copy. stmt_view copy ≡ t.select place line kind (term_view on.now) (arms_of (map arm_view arms.now))) }
+    ensures { IfOk result (λ copy. stmt_view copy ≡ t.select room.place line kind (term_view on.now) (arms_of (map arm_view arms.now))) }
 {
     let on = copy_term(alloc, on)?;
     let arms = copy_arms(alloc, arms)?;
@@ -114,7 +114,7 @@ fn copy_select(
         on,
         arms,
     };
-    at(alloc, place, form)
+    Ok(filled(room, form))
 }
 
 /// Copies of the arms of a case.
@@ -140,34 +140,45 @@ fn copy_arm(alloc: Global, arm: &CaseArm) -> Result<CaseArm, NoMemory>
     })
 }
 
-/// A copy of an assignment at this place.
+/// A copy of an assignment.
 fn copy_set(
     alloc: Global,
-    place: Place,
+    room: Stmt,
     line: u32,
     blocking: bool,
     target: &Target,
     value: &Term,
 ) -> Result<Stmt, NoMemory>
-    ensures { IfOk result (λ copy. stmt_view copy ≡ t.set place line blocking (target_view target.now) (term_view value.now)) }
+    ensures { IfOk result (λ copy. stmt_view copy ≡ t.set room.place line blocking (target_view target.now) (term_view value.now)) }
 {
-    let value = copy_term(alloc, value)?;
+    let target = copy_target(alloc, target)?;
     let form = StmtForm::Set {
         line,
         blocking,
-        target: copy_target(alloc, target)?,
-        value,
+        target,
+        value: copy_term(alloc, value)?,
     };
-    at(alloc, place, form)
+    Ok(filled(room, form))
 }
 
-/// A statement of this form at this place.
-fn at(alloc: Global, place: Place, form: StmtForm) -> Result<Stmt, NoMemory>
-    ensures place { IfOk result (λ copy. copy.place ≡ place) }
-    ensures form { IfOk result (λ copy. copy.form.value ≡ form) }
+/// An empty statement at a place, whose box is there and is still to be filled. It is allocated before the boxes of the
+/// parts, so that a statement lies before its parts.
+fn room_at(alloc: Global, place: Place) -> Result<Stmt, NoMemory>
+    ensures place { IfOk result (λ room. room.place ≡ place) }
+    ensures form { IfOk result (λ room. room.form.value ≡ StmtForm.Empty) }
 {
     Ok(Stmt {
         place,
-        form: Box::new(alloc, form)?,
+        form: Box::new(alloc, StmtForm::Empty)?,
     })
+}
+
+/// The statement with this form in its box.
+fn filled(room: Stmt, form: StmtForm) -> Stmt
+    ensures place { result.place ≡ room.place }
+    ensures form { result.form.value ≡ form }
+{
+    let mut stmt = room;
+    *stmt.form = form;
+    stmt
 }

@@ -14,30 +14,31 @@ use std::alloc::Global;
 pub(crate) fn copy_term(alloc: Global, term: &Term) -> Result<Term, NoMemory>
     ensures { IfOk result (λ copy. term_view copy ≡ term_view term.now) }
 {
+    let room = room_like(alloc, term)?;
     match &*term.form {
-        Form::Number(value) => like(alloc, term, Form::Number(*value)),
-        Form::Signal(signal) => like(alloc, term, Form::Signal(*signal)),
-        Form::Word { memory, index } => copy_word(alloc, term, *memory, index),
-        Form::Bit { of, index } => copy_bit(alloc, term, of, index),
-        Form::Part { of, high, low } => copy_part(alloc, term, of, high, low),
+        Form::Number(value) => Ok(filled(room, Form::Number(*value))),
+        Form::Signal(signal) => Ok(filled(room, Form::Signal(*signal))),
+        Form::Word { memory, index } => copy_word(alloc, room, *memory, index),
+        Form::Bit { of, index } => copy_bit(alloc, room, of, index),
+        Form::Part { of, high, low } => copy_part(alloc, room, of, high, low),
         Form::Slide {
             of,
             base,
             width,
             up,
-        } => copy_slide(alloc, term, of, base, width, *up),
-        Form::Unary(op, a) => like(alloc, term, Form::Unary(*op, copy_term(alloc, a)?)),
+        } => copy_slide(alloc, room, of, base, width, *up),
+        Form::Unary(op, a) => Ok(filled(room, Form::Unary(*op, copy_term(alloc, a)?))),
         Form::Binary(op, a, b) => {
             let a = copy_term(alloc, a)?;
-            like(alloc, term, Form::Binary(*op, a, copy_term(alloc, b)?))
+            Ok(filled(room, Form::Binary(*op, a, copy_term(alloc, b)?)))
         }
-        Form::Choice { test, yes, no } => copy_choice(alloc, term, test, yes, no),
-        Form::Concat(parts) => like(alloc, term, Form::Concat(copy_terms(alloc, parts)?)),
+        Form::Choice { test, yes, no } => copy_choice(alloc, room, test, yes, no),
+        Form::Concat(parts) => Ok(filled(room, Form::Concat(copy_terms(alloc, parts)?))),
         Form::Repeat(count, parts) => {
             let count = copy_term(alloc, count)?;
-            like(alloc, term, Form::Repeat(count, copy_terms(alloc, parts)?))
+            Ok(filled(room, Form::Repeat(count, copy_terms(alloc, parts)?)))
         }
-        Form::Sign(signed, a) => like(alloc, term, Form::Sign(*signed, copy_term(alloc, a)?)),
+        Form::Sign(signed, a) => Ok(filled(room, Form::Sign(*signed, copy_term(alloc, a)?))),
     }
 }
 
@@ -53,53 +54,53 @@ pub(crate) fn copy_terms(alloc: Global, terms: &[Term]) -> Result<Vec<Term>, NoM
     Ok(copies)
 }
 
-/// A copy of a term that is a word of a memory.
+/// A word of a memory in the room of its copy.
 #[cycle(terms)]
-fn copy_word(alloc: Global, term: &Term, memory: u32, index: &Term) -> Result<Term, NoMemory>
-    ensures { IfOk result (λ copy. term_view copy ≡ t.word (head_of term.now) memory (term_view index.now)) }
+fn copy_word(alloc: Global, room: Term, memory: u32, index: &Term) -> Result<Term, NoMemory>
+    ensures { IfOk result (λ copy. term_view copy ≡ t.word (head_of room) memory (term_view index.now)) }
 {
     let index = copy_term(alloc, index)?;
-    like(alloc, term, Form::Word { memory, index })
+    Ok(filled(room, Form::Word { memory, index }))
 }
 
-/// A copy of a term that is `of[index]`.
+/// A copy of `of[index]`.
 #[cycle(terms)]
-fn copy_bit(alloc: Global, term: &Term, of: &Term, index: &Term) -> Result<Term, NoMemory>
-    ensures { IfOk result (λ copy. term_view copy ≡ t.bit (head_of term.now) (term_view of.now) (term_view index.now)) }
+fn copy_bit(alloc: Global, room: Term, of: &Term, index: &Term) -> Result<Term, NoMemory>
+    ensures { IfOk result (λ copy. term_view copy ≡ t.bit (head_of room) (term_view of.now) (term_view index.now)) }
 {
     let of = copy_term(alloc, of)?;
     let index = copy_term(alloc, index)?;
-    like(alloc, term, Form::Bit { of, index })
+    Ok(filled(room, Form::Bit { of, index }))
 }
 
-/// A copy of a term that is `of[high:low]`.
+/// A copy of `of[high:low]`.
 #[cycle(terms)]
 fn copy_part(
     alloc: Global,
-    term: &Term,
+    room: Term,
     of: &Term,
     high: &Term,
     low: &Term,
 ) -> Result<Term, NoMemory>
-    ensures { IfOk result (λ copy. term_view copy ≡ t.part (head_of term.now) (term_view of.now) (term_view high.now) (term_view low.now)) }
+    ensures { IfOk result (λ copy. term_view copy ≡ t.part (head_of room) (term_view of.now) (term_view high.now) (term_view low.now)) }
 {
     let of = copy_term(alloc, of)?;
     let high = copy_term(alloc, high)?;
     let low = copy_term(alloc, low)?;
-    like(alloc, term, Form::Part { of, high, low })
+    Ok(filled(room, Form::Part { of, high, low }))
 }
 
-/// A copy of a term that is `of[base +: width]`, or where `up` is false `of[base -: width]`.
+/// A copy of `of[base +: width]`, or where `up` is false `of[base -: width]`.
 #[cycle(terms)]
 fn copy_slide(
     alloc: Global,
-    term: &Term,
+    room: Term,
     of: &Term,
     base: &Term,
     width: &Term,
     up: bool,
 ) -> Result<Term, NoMemory>
-    ensures { IfOk result (λ copy. term_view copy ≡ t.slide (head_of term.now) (term_view of.now) (term_view base.now) (term_view width.now) up) }
+    ensures { IfOk result (λ copy. term_view copy ≡ t.slide (head_of room) (term_view of.now) (term_view base.now) (term_view width.now) up) }
 {
     let of = copy_term(alloc, of)?;
     let base = copy_term(alloc, base)?;
@@ -110,36 +111,46 @@ fn copy_slide(
         width,
         up,
     };
-    like(alloc, term, form)
+    Ok(filled(room, form))
 }
 
-/// A copy of a term that is `test ? yes : no`.
+/// A copy of `test ? yes : no`.
 #[cycle(terms)]
 fn copy_choice(
     alloc: Global,
-    term: &Term,
+    room: Term,
     test: &Term,
     yes: &Term,
     no: &Term,
 ) -> Result<Term, NoMemory>
-    ensures { IfOk result (λ copy. term_view copy ≡ t.choice (head_of term.now) (term_view test.now) (term_view yes.now) (term_view no.now)) }
+    ensures { IfOk result (λ copy. term_view copy ≡ t.choice (head_of room) (term_view test.now) (term_view yes.now) (term_view no.now)) }
 {
     let test = copy_term(alloc, test)?;
     let yes = copy_term(alloc, yes)?;
     let no = copy_term(alloc, no)?;
-    like(alloc, term, Form::Choice { test, yes, no })
+    Ok(filled(room, Form::Choice { test, yes, no }))
 }
 
-/// A term of this form that is like another in all else.
-fn like(alloc: Global, term: &Term, form: Form) -> Result<Term, NoMemory>
-    ensures head { IfOk result (λ copy. head_of copy ≡ head_of term.now) }
-    ensures form { IfOk result (λ copy. copy.form.value ≡ form) }
+/// A term like another in all but its form, whose box is there and is still to be filled. It is allocated before the
+/// boxes of the parts, so that a term lies before its parts.
+fn room_like(alloc: Global, term: &Term) -> Result<Term, NoMemory>
+    ensures { IfOk result (λ room. head_of room ≡ head_of term.now) }
 {
     Ok(Term {
         place: term.place,
         width: term.width,
         signed: term.signed,
         node: term.node,
-        form: Box::new(alloc, form)?,
+        form: Box::new(alloc, Form::Signal(0))?,
     })
+}
+
+/// The term with this form in its box.
+fn filled(room: Term, form: Form) -> Term
+    ensures head { head_of result ≡ head_of room }
+    ensures form { result.form.value ≡ form }
+{
+    let mut term = room;
+    *term.form = form;
+    term
 }

@@ -1,9 +1,11 @@
 -- Sources that are read on the way to a design.
-use Rattle.std.proofs.Common.{◌≡◌, ℕ, false, List, [], ◌∷◌, ◌++◌, Option, None, Some, Ok, Err, refl, sym, subst, inl, inr, arith}
+use Rattle.std.proofs.Common.{◌≡◌, ◌∙◌, ℕ, false, List, [], ◌∷◌, ◌++◌, Option, None, Some, Ok, Err, refl, sym, ap, subst, inl, inr, arith}
 use Rattle.std.specs.Prelude.{◌≢◌, Contains, IfErr, IfOk, Result}
 use Rattle.std.proofs.lemmas.List.Elements.{Contains-append_right}
 use Rattle.cov_host.specs.Outside.{Outside}
 use Rattle.cov_host.specs.declared.place.Place.{Place}
+use Rattle.design_model.specs.View.{design_view}
+use Rattle.design_model.specs.declared.design.Design.{Design}
 use Rattle.verilog_lexer.specs.Answer.{Answer, IsFault}
 use Rattle.verilog_lexer.specs.Defines.{DefineText}
 use Rattle.verilog_lexer.specs.Reading.{tokens_of}
@@ -41,6 +43,10 @@ use Rattle.source_design.specs.declared.fault.SourceKind.{SourceKind}
 use Rattle.source_design.specs.declared.fault.SourceKind.TheVariants as kind
 use Rattle.source_design.specs.declared.stage.Found.{Found}
 use Rattle.source_design.specs.declared.stage.Found.TheVariants as found
+
+-- sources stand for each design that is plainly the same
+pub stand_for_same : (sources : List SourceText) (defines : List DefineText) (top : List ℕ) (x y : Design) → design_view y ≡ design_view x → StandFor sources defines top x → StandFor sources defines top y
+stand_for_same sources defines top x y same stands = record { modules = stands.modules; accepted = stands.accepted; flat = stands.flat ∙ ap Ok (sym same) }
 
 -- what a fault of the lexer says to be lacking is lacking
 pub lacking_found : (words : SourceValues) (sources : List SourceText) (f : LexFault) → IsFault (tokens_of sources words.defines) f → (what : Found) → IsLackingFrom f what → IsFound words sources what

@@ -13,6 +13,7 @@ use crate::stage::{Found, find};
 use crate::words::SourceWords;
 use cov_host::{Host, Name, NoMemory, Sequence};
 use design_model::Design;
+use process_copies::put_in_order;
 use source_files::{JoinFault, RootFault, include_path, join_include, read_roots};
 use std::alloc::Global;
 use verilog_lexer::{LexKind, Sources};
@@ -44,7 +45,8 @@ pub fn read_design<'a, H: Host>(
     };
     'lacking: loop {
         match find(alloc, &sources, words)? {
-            Found::Design(design) => {
+            Found::Design(mut design) => {
+                put_in_order(alloc, &mut design)?;
                 return Ok(ReadDesign {
                     design,
                     sources: names_of(alloc, &sources)?,

@@ -5,7 +5,7 @@ use Rattle.source_files.specs.Files.{Lacks}
 use Rattle.source_files.proofs.Contents.{joins_earlier}
 use Rattle.source_files.proofs.MissingNames.{missing_name}
 use Rattle.source_design.specs.Words.{source_values}
-use Rattle.source_design.proofs.Gathering.{begun_first, begun_more, design_gathered, include_fault, root_fault}
+use Rattle.source_design.proofs.Gathering.{begun_first, begun_more, design_gathered, include_fault, root_fault, stand_for_same}
 use Rattle.source_design.proofs.read.read_design.Goals as goal
 
 pub returns-in-Err-clause-fault : goal.returns-in-Err-clause-fault
@@ -17,11 +17,12 @@ lacking-init g c = record { begun = begun_first (source_values c.args.words.now)
 
 pub returns-in-Design-clause-design : goal.returns-in-Design-clause-design
 returns-in-Design-clause-design g c =
+    let words = source_values c.args.words.now in
     let stands = rw c.in-Design.is at c.in_ok-design.ensures.found in
     record {
       sources = c.lacking.sources;
-      gathered = design_gathered (source_values c.args.words.now) (g.H.Host.outside c.args.host.now) c.lacking.sources c.in-Design.design c.lacking.invariant.begun stands;
-      stands = stands;
+      gathered = design_gathered words (g.H.Host.outside c.args.host.now) c.lacking.sources c.in-Design.design c.lacking.invariant.begun stands;
+      stands = stand_for_same c.lacking.sources words.defines words.top c.in-Design.design c.put_in_order.new.design c.in_ok-put_in_order-in-Design.ensures stands;
       names = c.in_ok-names_of-in-Design.ensures;
     }
 
