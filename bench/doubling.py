@@ -1,14 +1,15 @@
 #!/usr/bin/env python3
 """Measures small inputs that might cost more than near their size.
 
-    bench/doubling.py PROGRAM [--only WORD..] [--seconds N] [--scale S] [--faster R] [--jobs J]
+    bench/doubling.py PROGRAM [--only WORD..] [--seconds N] [--scale S] [--faster R] [--jobs J] [--test]
 
 Each idea of `hostile/text_ideas.py` and `hostile/design_ideas.py` makes an input of several sizes: macros that double and yield no
 token, nested parts of each kind, long lists of each kind, texts without an end, chains of processes, open branches, and the like.
 Printed are the processor seconds of each size above those of the least input of that command, the bytes of the input, and the power by which the
 seconds grow from the last size but one to the last, over the size and over the bytes. An idea ends with the size that takes more than N
 seconds. With `--faster R` the ideas alone are printed whose power over the bytes is above R. `--only` takes the ideas whose
-name has one of the words.
+name has one of the words. `--test` prints the ideas alone that took more than N seconds or did not end with a status that is documented,
+then how many passed and failed, and ends with status 1 if one failed.
 """
 import argparse
 import math
@@ -18,6 +19,7 @@ import shutil
 import sys
 import tempfile
 
+from hostile.checks import LINES
 from hostile.child import run
 from hostile.design_ideas import IDEAS as DESIGN_IDEAS
 from hostile.ideas import call
@@ -98,15 +100,23 @@ def line_of(name, rows):
     return f"| {' | '.join(cells)} |", over_bytes
 
 
+def is_right(done, seconds):
+    """Whether a run ended by itself in that time, with a documented status and its line, and not for want of memory or a file."""
+    if done.signal or done.seconds > seconds or done.status in (5, 6):
+        return False
+    return done.err == b"" if done.status == 0 else bool(LINES[done.status].match(done.err))
+
+
 def begin(options, base):
     """Makes what a process of the pool measures with."""
     MEASURE.append(Measure(options.program, tempfile.mkdtemp(dir=base), options.seconds, options.scale))
 
 
 def measured(name):
-    """The line of an idea, and its power over the bytes."""
+    """The line of an idea, its power over the bytes, and whether each of its runs was right."""
     function, sizes = IDEAS[name]
-    return line_of(name, list(MEASURE[0].rows(function, sizes)))
+    rows = list(MEASURE[0].rows(function, sizes))
+    return *line_of(name, rows), all(is_right(row[3], MEASURE[0].seconds) for row in rows)
 
 
 def main():
@@ -117,15 +127,23 @@ def main():
     parser.add_argument("--scale", type=float, default=1, help="all sizes times this")
     parser.add_argument("--faster", type=float)
     parser.add_argument("--jobs", type=int, default=1)
+    parser.add_argument("--test", action="store_true")
     options = parser.parse_args()
     shared = "/dev/shm" if os.path.isdir("/dev/shm") else None
     names = dict.fromkeys(name for word in options.only for name in IDEAS if word in name)
     with tempfile.TemporaryDirectory(dir=shared, prefix="doubling-") as base:
-        print("| Idea | Seconds | Power over the size | over the bytes | Last input | Memory | End |\n|---|---|---|---|---|---|---|")
+        if not options.test:
+            print("| Idea | Seconds | Power over the size | over the bytes | Last input | Memory | End |\n|---|---|---|---|---|---|---|")
         with multiprocessing.Pool(options.jobs, begin, (options, base)) as pool:
-            for text, found in pool.imap(measured, names):
-                if options.faster is None or found is not None and found > options.faster:
+            failed = 0
+            for text, found, right in pool.imap(measured, names):
+                failed += not right
+                if not right if options.test else options.faster is None or found is not None and found > options.faster:
                     print(text, flush=True)
+    if options.test:
+        print(f"{len(names) - failed} passed, {failed} failed")
+        return int(failed > 0)
+    return 0
 
 
 if __name__ == "__main__":

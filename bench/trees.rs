@@ -1,6 +1,7 @@
 //! The terms of a body evaluated in two ways: by a walk over their trees, as `term_replay` does, and by one pass over a
-//! list of operations that was made of them once. Both use the same vectors and operators, which have the sizes of those
-//! of `known_state`. It prints the nanoseconds that one term takes: `trees [TERMS [ROUNDS]]`.
+//! list of operations that was made of them once. The trees are walked where their boxes lie apart, as elaboration leaves
+//! them, and where each box lies before what is in it, as `process_copies` makes them. All use the same vectors and
+//! operators, which have the sizes of those of `known_state`. It prints the nanoseconds that one term takes: `trees [TERMS [ROUNDS]]`.
 use std::hint::black_box;
 use std::time::Instant;
 
@@ -205,6 +206,49 @@ fn term(random: &mut Random, depth: u32) -> Term {
     Term { head, form: Box::new(form) }
 }
 
+/// A copy of a term, where each box is allocated before what is in it. What `between` makes before each box keeps it apart.
+fn copy<T>(term: &Term, between: &mut impl FnMut() -> T, rest: &mut Vec<T>) -> Term {
+    rest.push(between());
+    let mut form = Box::new(Form::Signal(0));
+    let mut next = |term: &Term| copy(term, between, rest);
+    *form = match &*term.form {
+        Form::Signal(s) => Form::Signal(*s),
+        Form::Not(a) => Form::Not(next(a)),
+        Form::Binary(op, a, b) => {
+            let a = next(a);
+            Form::Binary(*op, a, next(b))
+        }
+        Form::Choice(c, a, b) => {
+            let c = next(c);
+            let a = next(a);
+            Form::Choice(c, a, next(b))
+        }
+    };
+    Term { head: term.head, form }
+}
+
+/// Copies of terms, one after the other in memory.
+fn in_order(body: &[Term]) -> Vec<Term> {
+    body.iter().map(|term| copy(term, &mut || (), &mut Vec::new())).collect()
+}
+
+/// Copies of terms whose boxes lie apart, with what lies between them.
+fn apart(body: &[Term], random: &mut Random) -> (Vec<Term>, Vec<Vec<u8>>) {
+    let mut rest = Vec::new();
+    let mut between = || vec![0; 16 + random.below(200) as usize];
+    (body.iter().map(|term| copy(term, &mut between, &mut rest)).collect(), rest)
+}
+
+/// The least time of five that a function takes.
+fn least(mut function: impl FnMut()) -> f64 {
+    let timed = |_| {
+        let begun = Instant::now();
+        function();
+        begun.elapsed().as_nanos() as f64
+    };
+    (0..5).map(timed).fold(f64::MAX, f64::min)
+}
+
 fn signals(random: &mut Random, unsure_in_ten: u64) -> Vec<Known> {
     (0..64)
         .map(|s| {
@@ -215,46 +259,48 @@ fn signals(random: &mut Random, unsure_in_ten: u64) -> Vec<Known> {
         .collect()
 }
 
+/// The values of a body by its trees and by its lists are the same.
+fn compare(body: &[Term], lists: &[Vec<(Operation, Head)>], signals: &[Known]) {
+    let mut stack = Vec::new();
+    for (term, list) in body.iter().zip(lists) {
+        let (mut a, mut b, mut m, mut n) = (None, None, 0, 0);
+        assert_eq!(walk(term, signals, &mut a, &mut m), run(list, signals, &mut stack, &mut b, &mut n));
+        assert_eq!((a, m), (b, n));
+    }
+}
+
 fn main() {
     let mut words = std::env::args().skip(1).map(|w| w.parse::<usize>().expect("a number"));
     let terms = words.next().unwrap_or(100);
     let rounds = words.next().unwrap_or(20_000);
-    println!("{:>8} {:>10} {:>12} {:>12} {:>7}", "terms", "unsure", "tree", "list", "ratio");
+    println!("{:>8} {:>10} {:>12} {:>12} {:>12}", "terms", "unsure", "apart", "in order", "list");
     for unsure_in_ten in [0, 1] {
         let mut random = Random(1);
         let body: Vec<Term> = (0..terms).map(|_| term(&mut random, 3)).collect();
         let signals = signals(&mut random, unsure_in_ten);
-        let mut lists = Vec::new();
-        for t in &body {
+        let made = |term| {
             let mut list = Vec::new();
-            list_of(t, &mut list);
-            lists.push(list);
-        }
+            list_of(term, &mut list);
+            list
+        };
+        let lists: Vec<_> = body.iter().map(made).collect();
+        compare(&body, &lists, &signals);
         let nodes: usize = lists.iter().map(Vec::len).sum();
-        let mut stack = Vec::with_capacity(64);
-        for (t, list) in body.iter().zip(&lists) {
-            let (mut a, mut b, mut m, mut n) = (None, None, 0, 0);
-            assert_eq!(walk(t, &signals, &mut a, &mut m), run(list, &signals, &mut stack, &mut b, &mut n));
-            assert_eq!((a, m), (b, n));
-        }
-        let mut best = [f64::MAX; 2];
-        for _ in 0..5 {
-            let (mut first, mut notes) = (None, 0);
-            let begun = Instant::now();
-            for _ in 0..rounds {
-                for t in &body {
-                    black_box(walk(black_box(t), &signals, &mut first, &mut notes));
+        let (mut first, mut notes, mut stack) = (None, 0, Vec::with_capacity(64));
+        let mut walked = |body: &[Term]| {
+            least(|| {
+                for term in (0..rounds).flat_map(|_| body) {
+                    black_box(walk(black_box(term), &signals, &mut first, &mut notes));
                 }
+            })
+        };
+        let (scattered, _rest) = apart(&body, &mut random);
+        let times = [walked(&scattered), walked(&in_order(&body)), least(|| {
+            for list in (0..rounds).flat_map(|_| &lists) {
+                black_box(run(black_box(list), &signals, &mut stack, &mut None, &mut 0));
             }
-            best[0] = best[0].min(begun.elapsed().as_nanos() as f64 / (rounds * nodes) as f64);
-            let begun = Instant::now();
-            for _ in 0..rounds {
-                for list in &lists {
-                    black_box(run(black_box(list), &signals, &mut stack, &mut first, &mut notes));
-                }
-            }
-            best[1] = best[1].min(begun.elapsed().as_nanos() as f64 / (rounds * nodes) as f64);
-        }
-        println!("{:>8} {:>7} in 10 {:>9.2} ns {:>9.2} ns {:>7.2}", nodes, unsure_in_ten, best[0], best[1], best[0] / best[1]);
+        })];
+        let [apart, ordered, listed] = times.map(|it| it / (rounds * nodes) as f64);
+        println!("{nodes:>8} {unsure_in_ten:>7} in 10 {apart:>9.2} ns {ordered:>9.2} ns {listed:>9.2} ns");
     }
 }
