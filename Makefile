@@ -5,7 +5,8 @@
 # make try            shows the example with a program that is not proved, in a minute or two
 # make test           the gate: proves every crate, tries the wrong bodies, runs the tests, the program and the example cases
 # make cases          builds the program and runs the example cases of the stage that is reached; so does make rows
-# make built-cases    runs the same cases, the limit of points, an argument and names that are not UTF-8, with the program that the gate has built
+# make built-cases    runs the same cases, the limit of points, an argument and names that are not UTF-8, and small inputs that might take long,
+#                     with the program that the gate has built
 # make wrong-bodies   tries the wrong bodies of all crates, also those that the gate passes over; CRATES='NAME ..' of some
 # make install        puts the program into $(PREFIX)/bin, and its man page and documents into $(PREFIX)/share
 
@@ -60,6 +61,7 @@ built-cases:
 	sh cases/points_limit.sh $(PROGRAM)
 	bash cases/arguments.sh $(PROGRAM)
 	bash cases/bytes.sh $(PROGRAM)
+	python3 bench/doubling.py $(PROGRAM) --test --seconds 2
 
 wrong-bodies:
 	bash .ci/wrong-bodies $(CRATES)

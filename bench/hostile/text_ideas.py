@@ -232,7 +232,7 @@ def loops_nest_by_two(n):
     return module(f"reg y; integer {names}; always @* begin y = a; {loops} ; end")
 
 
-@idea(32, 64, 128, 256, 512, 1024, 1025)
+@idea(32, 64, 128, 256, 400, 1025)
 def two_loops_of_nothing(n):
     return module(f"reg y; integer i, j; always @* begin y = a; for (i = 0; i < {n}; i = i + 1)"
                   f" for (j = 0; j < {n}; j = j + 1) ; end")
@@ -263,15 +263,15 @@ def loops_with_long_headers(n):
                   " for (j = 0; j < 64" + " + 0" * n + "; j = j + 1) ; end")
 
 
-@idea(4, 8, 16, 512)
+@idea(8, 16, 32, 48)
 def terms_in_two_loops(n):
-    return module("reg y; integer i, j; always @* for (i = 0; i < 1000; i = i + 1) for (j = 0; j < 1000; j = j + 1) y = a" + " ^ a" * n + ";")
+    return module(f"reg y; integer i, j; always @* for (i = 0; i < {n}; i = i + 1) for (j = 0; j < {n}; j = j + 1) y = a" + " ^ a" * n + ";")
 
 
-@idea(8, 16, 32, 2048)
+@idea(8, 16, 32, 64)
 def long_headers_in_two_loops(n):
-    return module("reg y; integer i, j; always @* begin y = a; for (i = 0; i < 1000; i = i + 1)"
-                  " for (j = 0; j < 1000" + " + 0" * n + "; j = j + 1) ; end")
+    return module(f"reg y; integer i, j; always @* begin y = a; for (i = 0; i < {n}; i = i + 1)"
+                  f" for (j = 0; j < {n}" + " + 0" * n + "; j = j + 1) ; end")
 
 
 @idea(64, 256, 1024)
