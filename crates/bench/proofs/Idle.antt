@@ -1,5 +1,5 @@
 -- A store stays as it is between runs.
-use Rattle.std.proofs.Common.{◌<◌, ◌≡◌, ◌≤◌, ◌∙◌, ℕ, [], ap, arith, length, subst, sym}
+use Rattle.std.proofs.Common.{◌<◌, ◌≡◌, ◌∙◌, ℕ, [], ap, arith, length, subst, sym}
 use Rattle.design_model.specs.Design.{Design, body_at}
 use Rattle.design_model.specs.Lawful.{IsLawfulDesign}
 use Rattle.design_model.specs.View.{design_view}

@@ -1,16 +1,15 @@
 -- The score of the two files of a selfrun is good, and its table is one of the selfrun.
-use Rattle.std.proofs.Common.{◌≡◌, ◌∙◌, ◌≤◌, ◌<◌, ℕ, List, [], ◌∷◌, length, map, get_or, Option, None, Some, Ok, Err, refl, sym, ap, subst, arith, inl}
+use Rattle.std.proofs.Common.{◌≡◌, ◌∙◌, ◌≤◌, ◌<◌, ℕ, List, [], ◌∷◌, length, map, get_or, Option, Some, Ok, refl, sym, ap, subst, arith, inl}
 use Rattle.std.proofs.lemmas.List.{get_or-map, length-map}
 use Rattle.std.specs.Global.{Global}
-use Rattle.std.specs.Prelude.{All, Contains, IfSome, IsSome, IsSomeAnd}
+use Rattle.std.specs.Prelude.{All, IfSome, IsSome, IsSomeAnd}
 use Rattle.command_line.specs.declared.selfrun_words.SelfrunWords.{SelfrunWords}
 use Rattle.cov_host.specs.Outside.{Files, Outside}
 use Rattle.coverage_db.specs.declared.db.Db.{Db}
-use Rattle.coverage_db.specs.declared.db.DbPoint.{DbPoint}
 use Rattle.coverage_db.specs.declared.verdict.DbVerdict.{DbVerdict}
 use Rattle.coverage_db.specs.declared.verdict.DbVerdict.TheVariants.{Hit, Missed, Undetermined}
 use Rattle.design_model.proofs.FiniteRounds.{last_rounds_law}
-use Rattle.design_model.specs.Design.{Design as Tree, In}
+use Rattle.design_model.specs.Design.{In}
 use Rattle.design_model.specs.Doubt.{IsInDoubt}
 use Rattle.design_model.specs.Lawful.{IsLawfulDesign}
 use Rattle.design_model.specs.MayMove.{AreLastRounds}
@@ -31,7 +30,7 @@ use Rattle.selfrun_design.specs.Source.{HasCode, StandsForSelfrun}
 use Rattle.selfrun_doubts.specs.Certain.{CertainLaw}
 use Rattle.selfrun_dump.specs.Entries.{selfrun_dump}
 use Rattle.selfrun_dump.specs.Laws.{BoundLaw, SaysLaw, TextLaw, TimesLaw}
-use Rattle.selfrun_files.specs.Files.{HasTexts, dump_name, files_of, source_name}
+use Rattle.selfrun_files.specs.Files.{HasTexts, dump_name, source_name}
 use Rattle.selfrun_files.specs.Source.{source_text}
 use Rattle.selfrun_files.specs.Text.{dump_text}
 use Rattle.selfrun_points.specs.Few.{SelfrunPointsLaw}

@@ -4,7 +4,7 @@ use Rattle.std.proofs.lemmas.List.{map-append}
 use Rattle.four_state.specs.Vector.{Vector}
 use Rattle.design_model.specs.Tree.{Terms, Stmt, Stmts, no_stmts, a_stmt, Arms, no_arms}
 use Rattle.design_model.specs.Tree as flat
-use Rattle.design_model.specs.View.{Arm, arms_of, stmt_view, stmts_of, term_view, terms_of}
+use Rattle.design_model.specs.View.{Arm, arms_of, stmt_view, stmts_of, term_view}
 use Rattle.design_model.specs.declared.tree.CaseArm as code_arm
 use Rattle.design_model.specs.declared.tree.Stmt as code
 use Rattle.design_model.specs.declared.tree.Term as code_term

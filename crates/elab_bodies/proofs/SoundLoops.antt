@@ -1,5 +1,5 @@
 -- The turns of a loop whose header has no fault.
-use Rattle.std.proofs.Common.{◌≡◌, ◌∙◌, ℕ, Bool, true, false, not, ◌&&◌, ◌||◌, List, [], refl, sym, ap, if◌then◌else◌, Result, Ok, Err}
+use Rattle.std.proofs.Common.{◌≡◌, ◌∙◌, ℕ, Bool, true, false, not, ◌&&◌, ◌||◌, List, [], refl, sym, ap, if◌then◌else◌, Ok, Err}
 use Rattle.cov_host.specs.declared.place.Place.{Place}
 use Rattle.four_state.specs.Vector.{Vector}
 use Rattle.verilog_tree.specs.Tree.{Header, Statement}

@@ -174,7 +174,7 @@ fn unary_term(
     ensures counted { OnOk result (nodes.new ≡ nodes.old + count.nodes (binding_of scope.now) (unary_operator around.place op (expr_view a.now))) }
 {
     let node = take_if(names_thing(scope, a), nodes);
-    let inner = operand_shape(op, shape_of(scope, a), around.shape);
+    let inner = operand_shape(scope, op, a, around.shape);
     let a = term(alloc, base, scope, a, nodes, inner)?;
     around.unary(alloc, node, op, a)
 }
@@ -198,7 +198,7 @@ fn binary_term(
     ensures counted { OnOk result (nodes.new ≡ nodes.old + count.nodes (binding_of scope.now) (binary_operator around.place op (expr_view a.now) (expr_view b.now))) }
 {
     let node = take_if(one_names_thing(scope, a, b), nodes);
-    let (left, right) = operand_shapes(op, shape_of(scope, a), shape_of(scope, b), around.shape);
+    let (left, right) = operand_shapes(scope, op, a, b, around.shape);
     let a = term(alloc, base, scope, a, nodes, left)?;
     let b = term(alloc, base, scope, b, nodes, right)?;
     around.binary(alloc, node, op, a, b)

@@ -3,7 +3,7 @@ use Rattle.std.proofs.Common.{◌≡◌, ◌<◌, ℕ, zero, suc, Bool, true, fa
 use Rattle.std.specs.Prelude.{bytes_eq, flat_map}
 use Rattle.verilog_tree.specs.declared.item.Named.{Named}
 use Rattle.verilog_tree.specs.Tree.{Expr, Given, Module}
-use Rattle.flat_design.specs.Connections.{Connection, JoinedPort, connection, connections, connection_of, declaration_of, declared_port, is_sound_port, joined_port, joined_ports, with_connection, with_value}
+use Rattle.flat_design.specs.Connections.{Connection, JoinedPort, connection, connections, connection_of, declaration_of, declared_port, is_sound_port, joined_port, joined_ports, with_value}
 use Rattle.flat_design.specs.Declarations.{Declaration, Override}
 use Rattle.flat_design.specs.Instances.{declared}
 use Rattle.flat_design.specs.Numbering.{nodes}

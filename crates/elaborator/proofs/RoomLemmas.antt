@@ -1,5 +1,5 @@
 -- The line points and counted nodes of an instance can be numbered, item by item.
-use Rattle.std.proofs.Common.{◌≡◌, ◌+◌, ◌<◌, ◌≤◌, ◌^◌, ℕ, Bool, List, [], ◌∷◌, Option, Some, Result, Ok, Err, refl, sym, subst, length, get_or, drop, drop-cons, add-one, arith}
+use Rattle.std.proofs.Common.{◌≡◌, ◌+◌, ◌<◌, ℕ, Bool, List, [], ◌∷◌, Option, Some, Result, Ok, Err, refl, sym, subst, length, get_or, drop, drop-cons, add-one, arith}
 use Rattle.std.specs.Prelude.{OnOk, bytes_eq, sum_by}
 use Rattle.std.proofs.lemmas.List.Sums.{sum_by-cons}
 use Rattle.verilog_tree.specs.Tree.{Item, Module}

@@ -1,6 +1,5 @@
 -- A walk goes through the instances that an item names.
-use Rattle.std.proofs.Common.{◌≡◌, ℕ, ◌+◌, ◌<◌, true, false, List, ◌∷◌, ◌++◌, refl, sym, subst, length, get_or, drop, drop-cons, add-one}
-use Rattle.std.specs.Prelude.{flat_map}
+use Rattle.std.proofs.Common.{◌≡◌, ℕ, ◌+◌, ◌<◌, true, false, List, ◌∷◌, refl, sym, subst, length, get_or, drop, drop-cons, add-one}
 use Rattle.cov_host.specs.declared.place.Place.{Place}
 use Rattle.verilog_tree.specs.declared.item.Named.{Named}
 use Rattle.verilog_tree.specs.Tree.{Given, InstanceItem, Module, One}

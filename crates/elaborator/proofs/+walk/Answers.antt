@@ -1,11 +1,10 @@
-use Rattle.std.proofs.Common.{◌≡◌, ◌<◌, [], ◌∷◌, ◌++◌, ◌-◌, ◌^◌, ◌&&◌, suc, ℕ, List, refl, sym, ap, map, ◌∙◌, subst, drop, arith, rules}
+use Rattle.std.proofs.Common.{◌≡◌, ◌<◌, [], ◌∷◌, ◌-◌, ◌^◌, ◌&&◌, suc, ℕ, List, refl, sym, ap, map, ◌∙◌, subst, drop, arith, rules}
 use Rattle.std.specs.List.{list_any}
-use Rattle.std.specs.Prelude.{bytes_eq, flat_map}
+use Rattle.std.specs.Prelude.{bytes_eq}
 use Rattle.std.proofs.lemmas.Bool.{false≢true}
 use Rattle.std.proofs.lemmas.Grind.{common_steps}
 use Rattle.std.proofs.lemmas.Result.{on_ok_weaker}
 use Rattle.design_model.specs.Design.{AreDistinct}
-use Rattle.verilog_tree.specs.Tree.{Module}
 use Rattle.verilog_tree.specs.declared.item.Given.{Given as CodeGiven}
 use Rattle.verilog_tree.specs.declared.item.Named.{Named}
 use Rattle.verilog_tree.specs.View.{declareds_view, givens_view, item_view, items_view, module_view, modules_view, one_view, ones_view}

@@ -1,7 +1,6 @@
-use Rattle.std.proofs.Common.{refl, sym, subst, ◌∙◌}
+use Rattle.std.proofs.Common.{refl, subst, ◌∙◌}
 use Rattle.selfrun_files.specs.Files.{files_outside}
 use Rattle.selfrun_words.specs.Score.{score_in_words, selfrun_score}
-use Rattle.covered_cli.proofs.Scoring.{IfOk-map}
 use Rattle.covered_cli.proofs.Selfruns.{memory_alone}
 use Rattle.covered_cli.specs.Fault.{StandsIn}
 use Rattle.covered_cli.specs.Scoring.{IsTableIn}

@@ -1,4 +1,4 @@
-use Rattle.std.proofs.Common.{◌+◌, ◌++◌, Some, append-nil, drop, ap, sym, ◌∙◌}
+use Rattle.std.proofs.Common.{◌+◌, ◌++◌, append-nil, drop, ap, sym, ◌∙◌}
 use Rattle.flat_design.specs.Bodies.{all_text_reads, header_reads, items_text_reads, text_reads}
 use Rattle.flat_design.specs.Identifiers.{all_identifiers, identifiers}
 use Rattle.flat_design.specs.Processes.{listed_signals}

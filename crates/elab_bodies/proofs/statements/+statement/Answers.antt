@@ -4,7 +4,7 @@ use Rattle.four_state.specs.Vector.{Vector}
 use Rattle.design_model.specs.Tree as flat
 use Rattle.design_model.specs.View.{stmt_view, stmts_of, term_view, terms_of}
 use Rattle.verilog_tree.specs.Tree.{exprs_of, statements_of, arms_of, a_statement, case_item}
-use Rattle.verilog_tree.specs.View.{arms_view, exprs_view, loop_view, statement_view, statements_view}
+use Rattle.verilog_tree.specs.View.{arms_view, exprs_view, statement_view, statements_view}
 use Rattle.verilog_tree.specs.declared.statement.Arm.{out-Arm}
 use Rattle.verilog_tree.specs.declared.statement.For.{out-For, the_lemmas}
 use Rattle.flat_design.specs.Bodies.{statement, statements, arms, label_terms, turn_stmts}

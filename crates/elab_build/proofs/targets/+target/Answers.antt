@@ -2,16 +2,14 @@ use Rattle.std.proofs.Common.{◌≡◌, ◌+◌, ◌∙◌, map, drop, subst, s
 use Rattle.std.proofs.lemmas.List.{at_drop_all}
 use Rattle.design_model.specs.View.{target_view}
 use Rattle.flat_design.specs.Numbering.{nodes, all_nodes}
-use Rattle.flat_design.specs.Identifiers.{base_name}
-use Rattle.flat_design.specs.Scope.{binding_of, is_memory_name, look_up, shape, thing_of, thing_number}
-use Rattle.flat_design.specs.Terms.{alone}
+use Rattle.flat_design.specs.Scope.{binding_of, is_memory_name, shape}
 use Rattle.flat_design.specs.Targets as spec
 use Rattle.flat_design.specs.Targets.{targets}
 use Rattle.verilog_tree.specs.Tree.{exprs_of, an_expr}
 use Rattle.verilog_tree.specs.View.{expr_view, exprs_view}
 use Rattle.elab_const.proofs.PartLemmas.{next_part_is}
 use Rattle.verilog_tree.proofs.ExprViews.{bit_view, part_view}
-use Rattle.elab_build.specs.Sound.{IsSound, IsSoundTarget}
+use Rattle.elab_build.specs.Sound.{IsSoundTarget}
 use Rattle.elab_build.specs.SoundTargets.{EachSoundTarget}
 use Rattle.elab_build.proofs.SoundTargets.{target_bit, target_part, target_concat, target_sound}
 use Rattle.elab_build.proofs.TargetLists.{bit_built, part_built, targets_before, targets_before_none, next_targets}

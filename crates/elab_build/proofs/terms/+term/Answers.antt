@@ -13,10 +13,10 @@ use Rattle.elab_build.proofs.SoundParts.{sound_binary, sound_choice, sound_part,
 use Rattle.elab_build.proofs.TermLists.{terms_before, terms_before_none, next_terms}
 use Rattle.elab_build.proofs.terms.+term.Goals as goal
 
-pub binary_term-shape_of-requires-2 : goal.binary_term-shape_of-requires-2
-binary_term-shape_of-requires-2 t c = record {
-  sound = (sound_binary (binding_of c.args.scope.now) c.args.around.place c.args.op (expr_view c.args.a.now) (expr_view c.args.b.now) c.requires.sound).1;
-}
+pub binary_term-operand_shapes-requires : goal.binary_term-operand_shapes-requires
+binary_term-operand_shapes-requires t c =
+    let s = sound_binary (binding_of c.args.scope.now) c.args.around.place c.args.op (expr_view c.args.a.now) (expr_view c.args.b.now) c.requires.sound in
+    record { left = s.0; right = s.1 }
 
 pub binary_term-term-requires : goal.binary_term-term-requires
 binary_term-term-requires t c =

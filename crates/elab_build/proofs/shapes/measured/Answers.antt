@@ -5,7 +5,7 @@ use Rattle.elab_const.specs.Scope.{unless}
 use Rattle.flat_design.specs.Scope.{binding_of, names}
 use Rattle.verilog_tree.specs.View.{expr_view}
 use Rattle.flat_design.proofs.NoConstFaults.{no_const_fault}
-use Rattle.elab_build.proofs.shapes.shape_of.Goals as goal
+use Rattle.elab_build.proofs.shapes.measured.Goals as goal
 
 pub unreachable-requires : goal.unreachable-requires
 unreachable-requires c =
