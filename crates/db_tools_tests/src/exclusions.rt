@@ -171,7 +171,7 @@ fn faults_before_a_table_have_their_lines(rt: HostRuntime) {
     assert!(rt; is_refused(rt.alloc(), b"x\n", DbKind::BadLine, 1));
 }
 
-/// The faults of addresses, and of what is after them.
+/// The faults of addresses.
 #[test]
 fn faults_of_addresses_have_their_lines(rt: HostRuntime) {
     assert!(rt;
@@ -206,6 +206,11 @@ fn faults_of_addresses_have_their_lines(rt: HostRuntime) {
             4
         )
     );
+}
+
+/// The faults of what is after addresses.
+#[test]
+fn faults_after_addresses_have_their_lines(rt: HostRuntime) {
     assert!(rt;
         is_refused(
             rt.alloc(),

@@ -4,7 +4,7 @@ use cov_host::Place;
 use four_state::{Binary, Bit, CaseKind, Edge, Four, Unary};
 use std::alloc::Global;
 use verilog_tree::{
-    Arm, Declared, Expr, ExprForm, Given, Item, ItemForm, Module, Named, One, Param, Range,
+    Arm, Declared, Expr, ExprForm, For, Given, Item, ItemForm, Module, Named, One, Param, Range,
     Statement, StatementForm, When,
 };
 
@@ -75,9 +75,11 @@ impl Shown {
         }
     }
 
+    /// Expressions, each after a space.
+    #[cycle(expression_text)]
     fn list(&mut self, exprs: &[Expr]) {
         for expr in exprs {
-            self.behind(" ", expr);
+            self.after(" ", expr);
         }
     }
 
@@ -85,64 +87,64 @@ impl Shown {
         self.put("(");
         self.put(tag);
         for expr in exprs {
-            self.behind(" ", expr);
+            self.after(" ", expr);
         }
         self.put(")")
     }
 
     pub(crate) fn expr(&mut self, expr: &Expr) {
-        self.behind("", expr)
+        self.after("", expr)
     }
 
     /// An expression after a text.
-    fn behind(&mut self, front: &str, expr: &Expr) {
+    #[cycle(expression_text)]
+    fn after(&mut self, front: &str, expr: &Expr) {
         self.put(front);
         self.put(opening(&expr.form));
         self.put(tag(&expr.form));
-        match &*expr.form {
+        self.parts(&expr.form);
+        self.put(closing(&expr.form))
+    }
+
+    /// What is in an expression of this form.
+    #[cycle(expression_text)]
+    fn parts(&mut self, form: &ExprForm) {
+        match form {
             ExprForm::Number(value) => self.four(value),
             ExprForm::Name(name) => self.push(name.as_slice()),
             ExprForm::Unary(_, a) | ExprForm::Sign(_, a) | ExprForm::Paren(a) => {
-                self.behind(" ", a);
+                self.after(" ", a)
             }
             ExprForm::Bit { of: a, index: b } | ExprForm::Binary(_, a, b) => {
-                self.behind(" ", a);
-                self.behind(" ", b);
+                self.after(" ", a);
+                self.after(" ", b);
             }
-            ExprForm::Part {
-                of: a,
-                high: b,
-                low: c,
+            ExprForm::Part { of, high, low, .. } => {
+                self.after(" ", of);
+                self.after(" ", high);
+                self.after(" ", low);
+            }
+            ExprForm::Slide {
+                of,
+                base,
+                width,
                 ..
-            }
-            | ExprForm::Slide {
-                of: a,
-                base: b,
-                width: c,
-                ..
-            }
-            | ExprForm::Choice {
-                test: a,
-                yes: b,
-                no: c,
             } => {
-                self.behind(" ", a);
-                self.behind(" ", b);
-                self.behind(" ", c);
+                self.after(" ", of);
+                self.after(" ", base);
+                self.after(" ", width);
             }
-            ExprForm::Concat(parts) => {
-                for part in parts {
-                    self.behind(" ", part);
-                }
+            ExprForm::Choice { test, yes, no } => {
+                self.after(" ", test);
+                self.after(" ", yes);
+                self.after(" ", no);
             }
+            ExprForm::Concat(parts) => self.list(parts.as_slice()),
             ExprForm::Repeat(count, parts) => {
-                self.behind("", count);
-                for part in parts {
-                    self.behind(" ", part);
-                }
+                self.after("", count);
+                self.list(parts.as_slice());
             }
         }
-        self.put(closing(&expr.form))
     }
 
     #[cycle(statement_text)]
@@ -181,16 +183,7 @@ impl Shown {
                 }
             }
             StatementForm::For(turns) => {
-                self.tagged(
-                    "for",
-                    &[
-                        &turns.name,
-                        &turns.first,
-                        &turns.test,
-                        &turns.target,
-                        &turns.step,
-                    ],
-                );
+                self.header(turns);
                 self.put(" ");
                 self.statement(&turns.body)
             }
@@ -205,6 +198,18 @@ impl Shown {
             StatementForm::Task => self.put("task"),
             StatementForm::Empty => self.put(";"),
         }
+    }
+
+    /// The header of a loop.
+    fn header(&mut self, turns: &For) {
+        let header = [
+            &turns.name,
+            &turns.first,
+            &turns.test,
+            &turns.target,
+            &turns.step,
+        ];
+        self.tagged("for", &header)
     }
 
     fn range(&mut self, range: &Option<Range>) {
@@ -298,8 +303,7 @@ impl Shown {
             } => {
                 self.put(if *input { "input" } else { "output" });
                 self.flag(*reg, " reg");
-                self.flag(*signed, " signed");
-                self.range(range);
+                self.vector(*signed, range);
                 self.names(names.as_slice())
             }
             ItemForm::Net {
@@ -308,8 +312,7 @@ impl Shown {
                 names,
             } => {
                 self.put("net");
-                self.flag(*signed, " signed");
-                self.range(range);
+                self.vector(*signed, range);
                 self.declared(names.as_slice())
             }
             ItemForm::Var {
@@ -318,10 +321,23 @@ impl Shown {
                 names,
             } => {
                 self.put("var");
-                self.flag(*signed, " signed");
-                self.range(range);
+                self.vector(*signed, range);
                 self.declared(names.as_slice())
             }
+            _ => self.other_item(&item.form),
+        }
+    }
+
+    /// The sign and the range of what is declared.
+    fn vector(&mut self, signed: bool, range: &Option<Range>) {
+        self.flag(signed, " signed");
+        self.range(range)
+    }
+
+    /// An item that declares no port, net or variable with a range.
+    fn other_item(&mut self, form: &ItemForm) {
+        match form {
+            ItemForm::Port { .. } | ItemForm::Net { .. } | ItemForm::Var { .. } => {}
             ItemForm::Integer(names) => {
                 self.put("integer");
                 self.declared(names.as_slice())
