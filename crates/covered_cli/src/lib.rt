@@ -3,7 +3,7 @@
 //! The clauses of [`covered`] are what the whole program promises, and `specs/Scoring.antt` has the one of a score: each
 //! coverage point of the design is listed once, each verdict holds in every run of the design that shows the dump, and each
 //! undetermined point has its reason.
-//! Nothing here opens a file by itself: a host does, real (`cov_host::FileHost`) or in memory.
+//! Nothing here opens a file by itself: a host does, real (`file_host::FileHost`) or in memory.
 //!
 //! ```text
 //! let mut words = Words::new(alloc);

@@ -1,5 +1,6 @@
 //! Commands over files in memory, and what they write and say.
-use cov_host::{Calls, MemoryHost, NoMemory, Words};
+use cov_host::{Calls, NoMemory, Words};
+use memory_hosts::MemoryHost;
 use covered_cli::{Status, covered};
 use std::alloc::Global;
 

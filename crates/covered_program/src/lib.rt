@@ -7,8 +7,9 @@
 ghost use Rattle.std.specs.Prelude.{◌≡◌, ◌↔◌};
 ghost use Rattle.std.specs.IoError.{error_kind};
 
-use cov_host::{FileHost, Words};
+use cov_host::Words;
 use covered_cli::{Status, covered};
+use file_host::FileHost;
 use std::env;
 use std::io::{self, ErrorKind, Print};
 use std::process::ExitCode;

@@ -1,6 +1,7 @@
 //! The commands over files in memory.
 use crate::words::{merge_of, report_of, words_of};
-use cov_host::{Calls, MemoryHost, NoMemory, Words};
+use cov_host::{Calls, NoMemory, Words};
+use memory_hosts::MemoryHost;
 use coverage_db::DbKind;
 use database_commands::{CommandFault, run_merge, run_report};
 use std::alloc::Global;

@@ -1,7 +1,8 @@
 //! Points excluded and restored in files in memory, and what is reported where one is refused.
 use crate::words::words_of;
 use command_line::{Command, read_command};
-use cov_host::{Calls, MemoryHost, NoMemory, Words};
+use cov_host::{Calls, NoMemory, Words};
+use memory_hosts::MemoryHost;
 use coverage_db::DbKind;
 use database_commands::{CommandFault, run_exclude, run_report, run_restore};
 use db_tools::ToolFault;

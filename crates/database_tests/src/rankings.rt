@@ -1,6 +1,7 @@
 //! Rankings of files in memory, and what is reported where there is none.
 use crate::words::{rank_of, words_of};
-use cov_host::{Calls, MemoryHost, NoMemory, Words};
+use cov_host::{Calls, NoMemory, Words};
+use memory_hosts::MemoryHost;
 use coverage_db::DbKind;
 use database_commands::{CommandFault, run_rank};
 use std::alloc::Global;

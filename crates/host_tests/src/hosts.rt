@@ -1,7 +1,9 @@
 //! Calls on each host, made one after the other.
 ghost use Rattle.std.specs.Prelude.{◌≡◌, true};
 
-use cov_host::{Calls, FileHost, Host, HostFault, MemoryHost, NoMemory, OpenFault, SureHost};
+use cov_host::{Calls, Host, HostFault, NoMemory, OpenFault};
+use file_host::FileHost;
+use memory_hosts::{MemoryHost, SureHost};
 use std::alloc::Global;
 use std::fs;
 

@@ -1,7 +1,7 @@
 //! Reading and writing where a signal interrupts.
 ghost use Rattle.std.specs.Prelude.{◌≤◌, IfOk};
 
-use cov_host::{read_some, write_some};
+use file_host::{read_some, write_some};
 use std::io;
 use std::io::{ErrorKind, Read, Write};
 

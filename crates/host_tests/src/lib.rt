@@ -1,4 +1,4 @@
-//! Tests of the hosts and of the files that are read through them: `cov_host` and `source_files`.
+//! Tests of the hosts and of the files that are read through them: `file_host`, `memory_hosts` and `source_files`.
 #![tactic(auto)]
 
 #[cfg(test)]

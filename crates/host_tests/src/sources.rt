@@ -1,5 +1,6 @@
 //! The files of a design, read through a host.
-use cov_host::{Calls, MemoryHost, NoMemory};
+use cov_host::{Calls, NoMemory};
+use memory_hosts::MemoryHost;
 use source_files::{JoinFault, RootFault, include_path, join_include, read_roots};
 use std::alloc::Global;
 use verilog_lexer::{LexKind, Sources};

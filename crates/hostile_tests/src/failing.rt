@@ -1,7 +1,8 @@
 //! Each call of a command on the host fails in turn, up to the first number that no call of it has.
 use crate::runs::{host_that_fails, status_of};
 use crate::texts::{FIRST, MERGED, REGISTER, REPORT, RISES, SECOND, STAYS};
-use cov_host::{MemoryHost, NoMemory};
+use cov_host::NoMemory;
+use memory_hosts::MemoryHost;
 use covered_cli::Status;
 use std::alloc::Global;
 

@@ -1,5 +1,5 @@
 use Rattle.std.specs.Io.KnownBytes.{Keeps}
-use Rattle.cov_host.proofs.retry.read_some.Given as goal
+use Rattle.file_host.proofs.retry.read_some.Given as goal
 
 -- no byte was taken yet
 abbrev pub invariant-loop : goal.invariant-loop

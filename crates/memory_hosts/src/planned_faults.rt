@@ -2,8 +2,7 @@ ghost use Rattle.std.specs.Prelude.{◌≡◌, ◌+◌, ◌-◌, ◌^◌, ◌≤
 ghost use Rattle.std.specs.Bool.{OnTrue, OnFalse};
 ghost use Rattle.cov_host.specs.Outside.{IsCounted};
 
-use crate::Calls;
-use crate::count::raise;
+use cov_host::{Calls, raise};
 
 /// The calls that are to fail, by their numbers from 1, with how many calls there were and how many of them failed.
 /// Both counts stay at their greatest value.

@@ -1,6 +1,6 @@
 ghost use Rattle.std.specs.Prelude.{◌≡◌, ◌≢◌, ◌≤◌, [], ◌++◌, length, take, IfOk};
 
-use crate::NoMemory;
+use cov_host::NoMemory;
 use std::alloc::Global;
 use std::marker::Model;
 

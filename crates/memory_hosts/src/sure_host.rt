@@ -3,9 +3,8 @@ ghost use Rattle.std.specs.Option.{ForSome, option_copied};
 ghost use Rattle.std.specs.BTreeMap.{get_by_text};
 ghost use Rattle.cov_host.specs.Outside.{Told, HasFile, IsCounted, KeepsFiles, KeepsInput, KeepsOutput, KeepsStreams, KeepsCounts, CountsMute, empty_outside};
 
-use crate::count::raise;
 use crate::input::Input;
-use crate::{Bytes, Failed, Host, HostFault, NoMemory, OpenFault};
+use cov_host::{Bytes, Failed, Host, HostFault, NoMemory, OpenFault, raise};
 use std::alloc::Global;
 use std::collections::BTreeMap;
 
@@ -40,7 +39,7 @@ impl Drop for SureHost {
 }
 
 impl SureHost {
-    ghost use Rattle.cov_host.specs.SureHost.{sure_outside};
+    ghost use Rattle.memory_hosts.specs.SureHost.{sure_outside};
 
     /// No file, and nothing read, written, printed or warned.
     pub fn new(alloc: Global) -> Result<Self, NoMemory>
@@ -134,7 +133,7 @@ impl SureHost {
 }
 
 impl Host for SureHost {
-    ghost use Rattle.cov_host.specs.SureHost.{sure_outside};
+    ghost use Rattle.memory_hosts.specs.SureHost.{sure_outside};
 
     ghost outside = { sure_outside };
 

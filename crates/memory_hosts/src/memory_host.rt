@@ -3,8 +3,9 @@ ghost use Rattle.std.specs.Bool.{OnFalse};
 ghost use Rattle.std.specs.Option.{option_copied};
 ghost use Rattle.cov_host.specs.Outside.{Told, HasFile, KeepsFiles, KeepsInput, KeepsOutput, KeepsStreams, KeepsCounts, empty_outside};
 
+use crate::SureHost;
 use crate::planned_faults::PlannedFaults;
-use crate::{Calls, Failed, Host, HostFault, NoMemory, OpenFault, SureHost};
+use cov_host::{Calls, Failed, Host, HostFault, NoMemory, OpenFault};
 use std::alloc::Global;
 
 /// A host in memory with planned faults, of which all of the outside is known. It refuses the calls that were planned
@@ -27,7 +28,7 @@ impl Drop for MemoryHost {
 }
 
 impl MemoryHost {
-    ghost use Rattle.cov_host.specs.MemoryHost.{memory_outside, memory_plan};
+    ghost use Rattle.memory_hosts.specs.MemoryHost.{memory_outside, memory_plan};
 
     /// No file, and nothing read, written, printed or warned. The calls of `Host` are numbered from 1, and those
     /// whose numbers are among the failing ones answer Failed.
@@ -104,7 +105,7 @@ impl MemoryHost {
 }
 
 impl Host for MemoryHost {
-    ghost use Rattle.cov_host.specs.MemoryHost.{memory_outside};
+    ghost use Rattle.memory_hosts.specs.MemoryHost.{memory_outside};
 
     ghost outside = { memory_outside };
 

@@ -5,8 +5,8 @@ use Rattle.std.proofs.lemmas.List.{append-nil}
 use Rattle.std.proofs.lemmas.Map.Text.{text_keys}
 use Rattle.std.proofs.lemmas.Result.{err_from_is_err_and}
 use Rattle.std.proofs.Math.Seq.{take-length}
-use Rattle.cov_host.proofs.Files.{appends_to, length_positive}
-use Rattle.cov_host.proofs.sure_host.SureHostHost.write.Goals as goal
+use Rattle.memory_hosts.proofs.Files.{appends_to, length_positive}
+use Rattle.memory_hosts.proofs.sure_host.SureHostHost.write.Goals as goal
 
 -- the output is one of the files
 pub unwrap-bytes-requires : goal.unwrap-bytes-requires

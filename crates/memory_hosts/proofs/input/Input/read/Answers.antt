@@ -1,7 +1,7 @@
 use Rattle.std.proofs.Common.{◌≡◌, ℕ, ◌+◌, List, ◌++◌, arith, length, take, drop}
 use Rattle.std.proofs.lemmas.Grind.{common_steps}
 use Rattle.std.proofs.lemmas.List.{take_at, take-append-drop, drop-drop}
-use Rattle.cov_host.proofs.input.Input.read.Goals as goal
+use Rattle.memory_hosts.proofs.input.Input.read.Goals as goal
 
 -- the bytes that were moved and those that are left are all that were left
 split : (count at : ℕ) (all moved rest : List ℕ) → moved ≡ take count (drop at all) → length moved ≡ count → drop at all ≡ take count (moved ++ rest) ++ drop (at + count) all

@@ -3,7 +3,7 @@ use Rattle.std.specs.Prelude.{Some, [], is_some, unwrap_or, string_bytes}
 use Rattle.std.specs.Option.{option_map}
 use Rattle.std.specs.BTreeMap.{get_by_text}
 use Rattle.cov_host.specs.Outside.{Outside}
-use Rattle.cov_host.specs.declared.sure_host.SureHost.{SureHost}
+use Rattle.memory_hosts.specs.declared.sure_host.SureHost.{SureHost}
 
 -- all that the outside has; it has no faults
 abbrev pub sure_outside : SureHost → Outside

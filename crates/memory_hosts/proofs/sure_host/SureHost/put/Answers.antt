@@ -1,6 +1,6 @@
 use Rattle.std.proofs.Common.{arith}
 use Rattle.std.proofs.lemmas.Map.Text.{text_keys}
-use Rattle.cov_host.proofs.sure_host.SureHost.put.Goals as goal
+use Rattle.memory_hosts.proofs.sure_host.SureHost.put.Goals as goal
 
 pub invariant_of-self : goal.invariant_of-self
 invariant_of-self c = record {

@@ -2,9 +2,8 @@ ghost use Rattle.std.specs.Prelude.{◌≡◌, ◌≢◌, ◌<◌, ◌≤◌, �
 ghost use Rattle.std.specs.IoError.{error_kind};
 ghost use Rattle.cov_host.specs.Outside.{IsCounted, untold_outside};
 
-use crate::count::raise;
 use crate::retry::{read_some, write_some};
-use crate::{Failed, Host, HostFault, OpenFault};
+use cov_host::{Failed, Host, HostFault, OpenFault, raise};
 use std::alloc::Global;
 use std::fs::OpenFile;
 use std::io::{ErrorKind, Print, Read, Write};
@@ -39,7 +38,7 @@ impl<R: Runtime + Drop, E: Print + Drop> Drop for FileHost<R, E> {
 }
 
 impl<R: Runtime, E: Print> FileHost<R, E> {
-    ghost use Rattle.cov_host.specs.FileHost.{file_outside};
+    ghost use Rattle.file_host.specs.FileHost.{file_outside};
 
     /// Nothing is being read or written. Files are opened with the allocator, and warnings, which need not be text, go to the second stream.
     pub fn new(rt: R, warnings: E, alloc: Global) -> Self
@@ -58,7 +57,7 @@ impl<R: Runtime, E: Print> FileHost<R, E> {
 }
 
 impl<R: Runtime, E: Print> Host for FileHost<R, E> {
-    ghost use Rattle.cov_host.specs.FileHost.{file_outside};
+    ghost use Rattle.file_host.specs.FileHost.{file_outside};
 
     ghost outside = { file_outside };
 

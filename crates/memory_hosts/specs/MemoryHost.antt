@@ -1,8 +1,8 @@
 -- What is known of the outside of a host in memory with planned faults, and what is planned.
 use Rattle.std.specs.Prelude.{ℕ, Bool, List}
 use Rattle.cov_host.specs.Outside.{Outside}
-use Rattle.cov_host.specs.SureHost.{sure_outside}
-use Rattle.cov_host.specs.declared.memory_host.MemoryHost.{MemoryHost}
+use Rattle.memory_hosts.specs.SureHost.{sure_outside}
+use Rattle.memory_hosts.specs.declared.memory_host.MemoryHost.{MemoryHost}
 
 -- all that the outside has
 abbrev pub memory_outside : MemoryHost → Outside
