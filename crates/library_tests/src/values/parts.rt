@@ -2,7 +2,7 @@
 //! registers `a` and `b` of these widths and signs, `wire r = a OP b;` and `$display("%b", r);`, and likewise for
 //! parts and edges. The comments name the cases in which the standard, or this project's own reading, says otherwise.
 
-use crate::spelled::{is_spelled, vector};
+use crate::values::spelled::{is_spelled, vector};
 use four_state::{Bit, Edge, Four};
 
 /// A vector, and the same assigned to a wider or a narrower one.

@@ -1,6 +1,6 @@
 //! Texts that are no dumps.
-use crate::bodies::{HEADER, with_header};
-use crate::pieces::{SIZES, next, open, piece};
+use crate::dumps::bodies::{HEADER, with_header};
+use crate::dumps::pieces::{SIZES, next, open, piece};
 use std::alloc::Global;
 use vcd_reader::{Body, DumpFault, DumpKind};
 

@@ -1,5 +1,5 @@
 use Rattle.std.proofs.Common.{◌≡◌}
-use Rattle.index_set_tests.proofs.wakes.agrees.Given as goal
+use Rattle.library_tests.proofs.number_sets.wakes.agrees.Given as goal
 
 -- the count of processes stays
 abbrev pub invariant-loop : goal.invariant-loop

@@ -1,7 +1,7 @@
 //! Numbers and vectors that look random, the same in each run.
 ghost use Rattle.std.specs.Prelude.{◌≤◌};
 
-use crate::plain::common;
+use crate::memories::plain::common;
 use four_state::Four;
 use known_state::Known;
 

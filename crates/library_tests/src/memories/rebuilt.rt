@@ -1,8 +1,8 @@
 //! Tests of the words of a memory that are partly known.
 ghost use Rattle.std.specs.Prelude.{◌≤◌};
 
-use crate::plain::Plain;
-use crate::random::Random;
+use crate::memories::plain::Plain;
+use crate::memories::random::Random;
 use cov_host::NoMemory;
 use four_state::{Bit, Four};
 use known_state::Known;

@@ -1,5 +1,5 @@
 //! What dumps say.
-use crate::pieces::{Opened, SIZES, next, open, piece};
+use crate::dumps::pieces::{Opened, SIZES, next, open, piece};
 use std::alloc::Global;
 use vcd_reader::{Item, Var, Vars};
 

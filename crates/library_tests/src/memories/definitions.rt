@@ -1,7 +1,7 @@
 //! Examples of the definitions themselves.
 ghost use Rattle.std.specs.Prelude.{◌≡◌, [], ◌∷◌, Some, None, true, false};
 ghost use Rattle.memory_rebuild.specs.Words.{bits_read, blame_read, word_after};
-ghost use Rattle.replay_tests.specs.Examples.{four, four_words, negative, two, two_or_three};
+ghost use Rattle.library_tests.specs.Memories.{four, four_words, negative, two, two_or_three};
 
 use four_state::Bit;
 

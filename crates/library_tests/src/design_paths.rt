@@ -1,4 +1,4 @@
-//! The paths of a signal and of a memory.
+//! Tests of `design_model`: the paths of a signal and of a memory.
 
 use cov_host::{Name, NoMemory, Sequence};
 use design_model::{Design, Instance, Memory, Signal};
