@@ -1,7 +1,7 @@
 //! The trees of sources.
-use crate::cases::{CASES, EXPRESSIONS};
-use crate::show::Shown;
-use crate::source::{joined, modules_of};
+use crate::parser::cases::{CASES, EXPRESSIONS};
+use crate::parser::show::Shown;
+use crate::parser::source::{joined, modules_of};
 use cov_host::{Bytes, NoMemory, Sequence};
 use std::alloc::Global;
 use verilog_tree::Module;

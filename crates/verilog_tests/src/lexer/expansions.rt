@@ -1,7 +1,7 @@
 //! The limit of what is put in for uses of macros and for inclusions: 134,217,728 bytes, where each text counts its bytes
 //! and 8 more.
-use crate::limits::{push_macro, push_name};
-use crate::sources::{add, of_bytes, one_root, refuses};
+use crate::lexer::limits::{push_macro, push_name};
+use crate::lexer::sources::{add, of_bytes, one_root, refuses};
 use cov_host::{Bytes, NoMemory, Text};
 use std::alloc::Global;
 use verilog_lexer::{LexKind, Sources};

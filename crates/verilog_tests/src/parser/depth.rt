@@ -1,6 +1,6 @@
 //! How deep expressions and statements nest.
-use crate::faults::is_fault;
-use crate::source::{fault_of, joined, modules_of};
+use crate::parser::faults::is_fault;
+use crate::parser::source::{fault_of, joined, modules_of};
 use cov_host::{Bytes, NoMemory};
 use std::alloc::Global;
 use verilog_parser::ParseKind;

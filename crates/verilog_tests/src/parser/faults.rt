@@ -1,6 +1,6 @@
 //! The faults of sources.
-use crate::cases::{REFUSALS, Refusal};
-use crate::source::{fault_of, joined};
+use crate::parser::cases::{REFUSALS, Refusal};
+use crate::parser::source::{fault_of, joined};
 use cov_host::{Name, Place};
 use std::alloc::Global;
 use verilog_parser::{ParseFault, ParseKind};

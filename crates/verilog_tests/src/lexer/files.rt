@@ -1,5 +1,5 @@
 //! Sources of several files, and macros of the call.
-use crate::sources::{File, gives, one_root, refuses, sources_of};
+use crate::lexer::sources::{File, gives, one_root, refuses, sources_of};
 use cov_host::Place;
 use std::alloc::Global;
 use verilog_lexer::{Defines, LexKind, Sources, Tokens, lex};

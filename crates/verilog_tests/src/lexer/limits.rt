@@ -1,5 +1,5 @@
 //! The limits of sources.
-use crate::sources::{add, gives, of_bytes, refuses};
+use crate::lexer::sources::{add, gives, of_bytes, refuses};
 use cov_host::{Bytes, NoMemory, Text};
 use std::alloc::Global;
 use verilog_lexer::{Defines, LexFault, LexKind, Sources};

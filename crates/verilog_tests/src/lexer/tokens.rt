@@ -1,6 +1,6 @@
 //! The tokens and the faults of short sources.
-use crate::cases::{CASES, Case, REFUSALS, Refusal};
-use crate::sources::{has_kinds, has_texts, one_root, refuses};
+use crate::lexer::cases::{CASES, Case, REFUSALS, Refusal};
+use crate::lexer::sources::{has_kinds, has_texts, one_root, refuses};
 use std::alloc::Global;
 use verilog_lexer::{Defines, Sources, lex};
 

@@ -1,5 +1,5 @@
 //! Long lines that a condition leaves out.
-use crate::sources::{gives, of_bytes};
+use crate::lexer::sources::{gives, of_bytes};
 use cov_host::{Bytes, NoMemory, Text};
 use std::alloc::Global;
 use verilog_lexer::Defines;
