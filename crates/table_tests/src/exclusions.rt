@@ -1,4 +1,4 @@
-//! What is read and written of tables with excluded points, and each refusal.
+//! Tests of tables of which some points are excluded: what is read and written of them, and each refusal.
 
 use coverage_db::{DbFault, DbKind, write_db};
 use db_tools::{Excluded, ToolFault, read_excluded, visible, write_excluded};

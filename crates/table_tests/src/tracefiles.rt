@@ -1,4 +1,4 @@
-//! Tracefiles of databases.
+//! Tests of the tracefiles of databases: whole texts, worked by hand from the rules of the format.
 ghost use Rattle.std.specs.Prelude.{IfSome};
 ghost use Rattle.coverage_db.specs.Table.{IsTable};
 

@@ -1,4 +1,4 @@
-//! What is printed of rankings of tables that were read.
+//! Tests of rankings: tables are read, ranked and printed.
 ghost use Rattle.std.specs.Prelude.{◌≡◌, All, IfOk, length};
 
 use cov_host::{NoMemory, Text};

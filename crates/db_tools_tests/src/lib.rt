@@ -1,5 +1,0 @@
-//! Tests of tables of which some points are excluded.
-#![tactic(auto)]
-
-#[cfg(test)]
-mod exclusions;
