@@ -1,6 +1,6 @@
 //! Memories.
 
-use crate::script::fault_of;
+use crate::scripts::script::fault_of;
 
 const MEMORIES: &str = "
 ====

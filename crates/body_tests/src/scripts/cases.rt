@@ -1,6 +1,6 @@
 //! Case statements.
 
-use crate::script::fault_of;
+use crate::scripts::script::fault_of;
 
 const CASES: &str = "
 ====

@@ -1,6 +1,6 @@
 //! Nets: one continuous assignment each.
 
-use crate::script::fault_of;
+use crate::scripts::script::fault_of;
 
 const NETS: &str = "
 ====

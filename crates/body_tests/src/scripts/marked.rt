@@ -13,8 +13,8 @@ ghost use Rattle.cover_points.specs.Visits.{AreApart, AreOnce, ArePlaced};
 ghost use Rattle.design_model.specs.Lawful.{IsLawfulDesign};
 ghost use Rattle.design_model.specs.View.{design_view};
 
-use crate::script::{TIME, run_line};
-use crate::verdicts::shown;
+use crate::scripts::script::{TIME, run_line};
+use crate::scripts::verdicts::shown;
 use block_runs::BlockNotes;
 use body_trials::{Given, Mark, given_of};
 use cov_host::NoMemory;

@@ -3,10 +3,10 @@
 ghost use Rattle.design_model.specs.Lawful.{IsLawfulDesign};
 ghost use Rattle.design_model.specs.View.{design_view};
 
-use crate::bodies::body_text;
-use crate::random::Random;
-use crate::spots::{are_by, has_doubt, has_spots, hits_within, same_spots};
-use crate::starts::{allowed, allows, count_of, given_of, left_by, start_of};
+use crate::random_bodies::bodies::body_text;
+use crate::random_bodies::random::Random;
+use crate::random_bodies::spots::{are_by, has_doubt, has_spots, hits_within, same_spots};
+use crate::random_bodies::starts::{allowed, allows, count_of, given_of, left_by, start_of};
 use block_runs::Certainty;
 use body_trials::{Mark, run_block};
 use design_model::Design;

@@ -1,6 +1,6 @@
 //! Conditions, decided and open.
 
-use crate::script::fault_of;
+use crate::scripts::script::fault_of;
 
 const CONDITIONS: &str = "
 ====

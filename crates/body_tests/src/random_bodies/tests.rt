@@ -1,6 +1,6 @@
 //! The test of the bodies.
 
-use crate::trials::fault_of;
+use crate::random_bodies::trials::fault_of;
 
 #[test]
 fn bodies_agree_with_all_allowed_values(rt: HostRuntime) {

@@ -1,6 +1,6 @@
 //! Blocking assignments, and clocks that blocks make.
 
-use crate::script::fault_of;
+use crate::scripts::script::fault_of;
 
 const CLOCKS: &str = "
 ====

@@ -1,6 +1,6 @@
 //! Combinational blocks.
 
-use crate::script::fault_of;
+use crate::scripts::script::fault_of;
 
 const COMBINATIONAL: &str = "
 ====

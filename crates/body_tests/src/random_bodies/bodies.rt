@@ -1,6 +1,6 @@
 //! Texts of bodies that look random.
 
-use crate::random::Random;
+use crate::random_bodies::random::Random;
 use std::alloc::Global;
 
 /// The module of a body up to its first statement. Its things are in this order: signals of one bit, of two bits, and a memory.

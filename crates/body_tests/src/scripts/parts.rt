@@ -1,6 +1,6 @@
 //! Targets that are parts, and loops.
 
-use crate::script::fault_of;
+use crate::scripts::script::fault_of;
 
 const PARTS: &str = "
 ====

@@ -1,4 +1,4 @@
-use Rattle.random_body_tests.proofs.bodies.Writer.+write.Given as goal
+use Rattle.body_tests.proofs.random_bodies.bodies.Writer.+write.Given as goal
 
 -- what a letter stands for has one step less
 abbrev pub decreases-write : goal.decreases-write

@@ -1,6 +1,6 @@
 //! Registers: one clocked block each.
 
-use crate::script::fault_of;
+use crate::scripts::script::fault_of;
 
 const REGISTERS: &str = "
 ====
