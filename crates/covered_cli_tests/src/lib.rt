@@ -1,5 +1,7 @@
-//! Tests of `covered_cli`: commands over files in memory, and what they write and say.
+//! Tests of `covered_cli`: commands over files in memory.
 #![tactic(auto)]
 
 #[cfg(test)]
-mod tests;
+mod commands;
+#[cfg(test)]
+mod hostile;

@@ -1,6 +1,6 @@
 //! Files that are cut short: each front of a dump, of a source and of a database.
-use crate::runs::{host_that_fails, status_of};
-use crate::texts::{CONTROLLER, FIRST, SENT};
+use crate::hostile::runs::{host_that_fails, status_of};
+use crate::hostile::texts::{CONTROLLER, FIRST, SENT};
 use cov_host::NoMemory;
 use covered_cli::Status;
 use std::alloc::Global;

@@ -1,7 +1,7 @@
-//! Commands over files in memory, and what they write and say.
+//! Tests of commands over files in memory, and what they write and say.
 use cov_host::{Calls, NoMemory, Words};
-use memory_hosts::MemoryHost;
 use covered_cli::{Status, covered};
+use memory_hosts::MemoryHost;
 use std::alloc::Global;
 
 /// A name and a text.

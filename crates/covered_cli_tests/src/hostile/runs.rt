@@ -1,7 +1,7 @@
 //! Commands over files in memory.
 use cov_host::{Calls, NoMemory, Words};
-use memory_hosts::MemoryHost;
 use covered_cli::{Status, covered};
+use memory_hosts::MemoryHost;
 use std::alloc::Global;
 
 /// A host without files, of which the call with this number fails; none does where it is 0.

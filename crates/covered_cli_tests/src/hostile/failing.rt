@@ -1,9 +1,9 @@
 //! Each call of a command on the host fails in turn, up to the first number that no call of it has.
-use crate::runs::{host_that_fails, status_of};
-use crate::texts::{FIRST, MERGED, REGISTER, REPORT, RISES, SECOND, STAYS};
+use crate::hostile::runs::{host_that_fails, status_of};
+use crate::hostile::texts::{FIRST, MERGED, REGISTER, REPORT, RISES, SECOND, STAYS};
 use cov_host::NoMemory;
-use memory_hosts::MemoryHost;
 use covered_cli::Status;
+use memory_hosts::MemoryHost;
 use std::alloc::Global;
 
 /// A command over files, and the text that it writes to the file `output`, or prints where that is `None`.
