@@ -1,0 +1,4 @@
+mod Design
+mod Machine
+mod Step
+mod Word
