@@ -52,7 +52,7 @@ fn print(rt: &impl Print, figures: Figures) -> io::Result<()> {
     println!(rt; "{a} {b} {c} {d}")
 }
 
-/// A word, empty if there is none.
+/// A word, empty if there is no word.
 fn text_of(word: &Option<String>) -> &str {
     match word {
         Some(word) => word.as_str(),

@@ -29,7 +29,7 @@ pub trait Bodies: Reads {
     ghost under: { Self → Under };
 
     /// Writes a part of the value of a blocking assignment. The thing is to blame for the value if that is not wholly
-    /// sure; of a value that is wholly sure there is none. The sign flag of the part is free.
+    /// sure; for a value that is wholly sure there is no such thing. The sign flag of the part is free.
     fn write(&mut self, to: &Lvalue, part: &Known, blame: Option<u32>)
         requires place { Takes (Self.scene self.old).design to.now (length part.now.bits) }
         requires sure { blame ≡ None → is_whole part.now ≡ true }

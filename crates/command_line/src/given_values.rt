@@ -71,7 +71,7 @@ impl<'a> GivenValues<'a> {
         option.repeats() || self.get(option).is_none()
     }
 
-    /// The value of an option, or the option where it has none.
+    /// The value of an option, or the option where it has no value.
     fn need(&self, option: ScoreOption) -> Result<&'a str, ScoreOption>
         ensures value { IfOk result (λ value. value_of self.now option ≡ Some value.now) }
         ensures missing { IfErr result (λ missing. (missing ≡ option) × (value_of self.now option ≡ None)) }

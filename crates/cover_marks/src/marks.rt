@@ -101,7 +101,7 @@ impl Marks {
         self.verdicts.verdict(point)
     }
 
-    /// Whether all line and node points of a process are hit, as they are where it has none. It takes constant time and no
+    /// Whether all line and node points of a process are hit, as they are where it has no such point. It takes constant time and no
     /// memory.
     pub fn is_settled(&self, process: u32) -> bool
         ensures { (points : ThePoints) → AreMarksOf points self.now → (IsTrue result ↔ IsSettled points self.now.verdicts process) }

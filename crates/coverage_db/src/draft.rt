@@ -177,7 +177,7 @@ impl Draft {
         Ok(())
     }
 
-    /// The next point, which comes after those so far, or what is behind the points.
+    /// The next point, which comes after those so far, or what is after the points.
     #[tactic(auto, unfolding(crate::specs::Drafting::next_point))]
     fn take_point(&mut self, number: u32, line: &[u8]) -> Result<(), DbFault>
         requires { IsDraft self.old }
@@ -197,7 +197,7 @@ impl Draft {
         }
     }
 
-    /// What is behind the points, where their number is right.
+    /// What is after the points, where their number is right.
     #[tactic(auto, unfolding(crate::specs::Drafting::next_counted))]
     fn take_counted(&mut self, number: u32, line: &[u8]) -> Result<(), DbFault>
         requires { IsDraft self.old }

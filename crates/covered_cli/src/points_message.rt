@@ -24,7 +24,7 @@ pub(crate) fn warn_points<H: Host>(host: &mut H, fault: &PointFault)
     }
 }
 
-/// The pieces in order of the line of a fault that is none of memory.
+/// The pieces in order of the line of a fault that is not one of memory.
 fn pieces_of(fault: &PointFault) -> [&[u8]; 4]
     ensures { flat_map (λ piece. piece.now) result ≡ codes "covered: source: " ++ point_text fault.now ++ codes "\n" }
 {

@@ -217,7 +217,7 @@ const DATABASES: &[Case] = &[
     Case { words: &["rank"], files: TABLES, status: Status::Usage, output: NONE, printed: "", warned: "covered: usage: missing file\n" },
 ];
 
-/// Selfruns, and words that are none.
+/// Selfruns, and words that are no selfrun.
 #[rattlefmt::skip]
 const SELFRUNS: &[Case] = &[
     Case { words: &["selfrun", "1", "2"], files: &[], status: Status::Done, output: NONE, printed: TWO_STEPS, warned: "" },

@@ -12,7 +12,7 @@ use whole_files::{FileFault, read_file};
 /// The longest database, in bytes.
 const LONGEST: usize = 2_147_483_648;
 
-/// Reads the table of a file with its excluded points, of which a plain database has none.
+/// Reads the table of a file with its excluded points; a plain database has no excluded points.
 pub(crate) fn read_exclusion<'a, H: Host>(
     alloc: Global,
     host: &mut H,

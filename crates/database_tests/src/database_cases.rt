@@ -1,4 +1,4 @@
-//! Example cases of databases: texts that are none, and databases that do not merge.
+//! Example cases of databases: texts that are no database, and databases that do not merge.
 use coverage_db::DbKind;
 
 /// A text that is no database, what is wrong with it, and in which line.

@@ -1,4 +1,4 @@
-//! Rankings of files in memory, and what is reported where there is none.
+//! Rankings of files in memory, and what is reported where there is no ranking.
 use crate::words::{rank_of, words_of};
 use cov_host::{Calls, NoMemory, Words};
 use memory_hosts::MemoryHost;
@@ -20,7 +20,7 @@ const THIRD: &[u8] =
 /// A table of another design.
 const OTHER: &[u8] = b"covered-db 1\ntop ffr\nsource 1 ffr.v\ninstance ffr ffr\npoints 0\nend\n";
 
-/// A host with the tables, and a file that is none.
+/// A host with the tables, and a file that is no table.
 fn host_with_tables(alloc: Global) -> Result<MemoryHost, NoMemory> {
     let mut host = MemoryHost::new(alloc, Calls::new(alloc))?;
     host.put("t1.db", FIRST)?;

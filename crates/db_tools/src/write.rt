@@ -9,7 +9,7 @@ use coverage_db::{Address, Db, DbInstance, DbPoint, push_subject, write_db};
 use itoa::Buffer;
 use std::alloc::Global;
 
-/// The text of a table with its excluded points: where there is none, the plain text of the table.
+/// The text of a table with its excluded points: where no point is excluded, the plain text of the table.
 pub fn write_excluded(alloc: Global, excluded: &Excluded) -> Result<Text, NoMemory>
     ensures { IfOk result (λ text. text ≡ excluded_text excluded.now) }
 {

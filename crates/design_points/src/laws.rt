@@ -8,7 +8,7 @@ ghost use Rattle.cover_points.specs.design_machines.state_machines.Drawn.{AreAli
 ghost use Rattle.cover_points.specs.design_machines.state_machines.Machines.{StateMachines};
 ghost use Rattle.design_points.specs.Counted.{HasFewPoints, HasManyPoints};
 
-/// No design has few points and many, with the same state machines, in whatever order what is drawn of them stands.
+/// No design has few points and many, with the same state machines, in whatever order what is drawn of them is listed.
 pub fn count_law()
     ensures { (d : Design) (ms ns : StateMachines) → AreAlike ms ns → HasFewPoints d ms → HasManyPoints d ns → ⊥ }
 {}

@@ -56,7 +56,7 @@ pub fn word_length(bytes: &[u8]) -> usize
     last_length(bytes, count)
 }
 
-/// How many bytes are no white space up to the first that is, where the first `from` are none.
+/// How many bytes are no white space up to the first that is, where the first `from` are no white space.
 #[cold]
 fn last_length(bytes: &[u8], from: usize) -> usize
     requires { from ≤ length bytes.now }

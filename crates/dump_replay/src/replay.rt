@@ -173,7 +173,7 @@ impl<'a> DumpReplay<'a> {
         self.last = None;
     }
 
-    /// The dump goes on: a stretch begins, whose first time is this one, or, where there is none, the next that is opened.
+    /// The dump goes on: a stretch begins, whose first time is this one, or, where no time is given, the next that is opened.
     pub fn begin_stretch(&mut self, time: Option<u64>)
         requires ready { IsReady self.old.replay }
         ensures ready { IsReady self.new.replay }

@@ -33,7 +33,7 @@ pub(crate) fn open<H: Host>(host: &mut H, name: &str) -> Result<(), ScoreFault>
 }
 
 /// Reads the next bytes of the file into the front of the piece, and says how many. Only at the end of the file
-/// there are none.
+/// there is no next byte.
 pub(crate) fn read<H: Host>(host: &mut H, piece: &mut [u8]) -> Result<usize, ScoreFault>
     requires reading { (H.outside host.old).reading ≡ true }
     requires piece { 0 < length piece.old }

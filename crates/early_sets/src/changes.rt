@@ -15,11 +15,11 @@ use std::alloc::Global;
 /// What is known of the changes of the signals and memories in a step.
 #[derive(Drop)]
 pub(crate) struct Changes {
-    /// For each signal or memory whether it is an input whose changes are told.
+    /// For each signal or memory whether it is an input whose changes are reported.
     pub(crate) told: Vec<bool>,
-    /// For each the edges of the change that was told last.
+    /// For each the edges of the change that was reported last.
     pub(crate) own: Vec<Edges>,
-    /// Those, except such inputs, whose change was told in this step.
+    /// Those, except such inputs, whose change was reported in this step.
     pub(crate) changed: IndexSet,
     /// Those, except such inputs, that were found to change at most once in this step.
     pub(crate) derived: IndexSet,
@@ -29,7 +29,7 @@ pub(crate) struct Changes {
 impl Changes {
     ghost use Rattle.early_sets.specs.Changes.{edges_of, is_single_by, is_told_by, own_edges_by};
 
-    /// Before the first step: for each signal or memory whether it is an input whose changes are told.
+    /// Before the first step: for each signal or memory whether it is an input whose changes are reported.
     pub(crate) fn new(alloc: Global, told: Vec<bool>) -> Result<Self, NoMemory>
         ensures told { IfOk result (λ changes. changes.told ≡ told) }
         ensures changed { IfOk result (λ changes. changes.changed.items ≡ []) }
@@ -57,7 +57,7 @@ impl Changes {
         self.derived.clear();
     }
 
-    /// Begins the rounds of a step, with the inputs whose changes are told as all that is single.
+    /// Begins the rounds of a step, with the inputs whose changes are reported as all that is single.
     pub(crate) fn forget_derived(&mut self)
         ensures told { self.new.told ≡ self.old.told }
         ensures own { self.new.own ≡ self.old.own }
@@ -115,7 +115,7 @@ impl Changes {
         }
     }
 
-    /// The edges of the change of the thing as it was told in this step.
+    /// The edges of the change of the thing as it was reported in this step.
     fn own_edges(&self, thing: usize) -> Edges
         requires { thing < length self.now.told.items }
         ensures { result ≡ own_edges_by self.now.told.items self.now.own.items self.now.changed.items thing }
@@ -127,7 +127,7 @@ impl Changes {
         }
     }
 
-    /// Whether the thing is an input whose changes are told, or its change was told in this step.
+    /// Whether the thing is an input whose changes are reported, or its change was reported in this step.
     fn may_be_told(&self, thing: usize) -> bool
         requires { thing < length self.now.told.items }
         ensures { result ≡ (is_told_by self.now.told.items thing || is_in self.now.changed.items thing) }

@@ -20,7 +20,7 @@ use wake_tables::WakeTables;
 /// block.
 pub struct Wakes {
     tables: WakeTables,
-    /// The inputs whose changes are never told.
+    /// The inputs whose changes are never reported.
     untold: Vec<u32>,
     /// For each signal or memory the block that writes it, where it may become single.
     writers: Vec<Option<u32>>,
@@ -68,7 +68,7 @@ impl Wakes {
     ghost use Rattle.early_sets.specs.WakeState.{can_wake_by, is_single, is_told, state_of, trigger_of, waker_of, wakes_only_by};
 
     /// The sets of a design with these tables, before the first step: for each signal or memory whether it is an input
-    /// whose changes are told, and the other inputs, each of which may change in any step. `writers` gives for each signal
+    /// whose changes are reported, and the other inputs, each of which may change in any step. `writers` gives for each signal
     /// that the dump gives too, and that only one block writes, at most once in each evaluation, this block; it may become
     /// single in a later round than the first. Where it gives none, the sets are those of the first round.
     pub fn new(
@@ -125,7 +125,7 @@ impl Wakes {
         self.tables.processes
     }
 
-    /// Whether the number is that of an input whose changes are told.
+    /// Whether the number is that of an input whose changes are reported.
     pub fn is_told(&self, thing: u32) -> bool
         ensures value { result ≡ is_told (state_of self.now) thing }
         ensures below { IsTrue result → thing < (state_of self.now).tables.things }
@@ -135,7 +135,7 @@ impl Wakes {
     }
 
     /// Whether the number is that of a signal, except an input, that may become single. Its changes are to be noted, as those
-    /// of the inputs whose changes are told.
+    /// of the inputs whose changes are reported.
     pub fn is_candidate(&self, thing: u32) -> bool
         ensures value { IsTrue result ↔ IsSome (writer_at (state_of self.now) thing) }
         ensures below { IsTrue result → thing < (state_of self.now).tables.things }
@@ -144,7 +144,7 @@ impl Wakes {
         place < self.writers.len() && self.writers[place].is_some()
     }
 
-    /// Begins a step, in which no change is told yet. It takes no memory, and time for the inputs that are never told,
+    /// Begins a step, in which no change is reported yet. It takes no memory, and time for the inputs whose changes are never reported,
     /// whatever the last step did.
     pub fn clear<T: Turns>(&mut self, turns: &mut T)
         ensures rest { state_of self.new ≡ record (state_of self.old) { noted = (state_of self.new).noted; changed = []; derived = []; moves = []; woken = []; early = [] } }

@@ -36,7 +36,7 @@ pub(crate) fn check_index<'a>(
 }
 
 /// Reports the faults of a part of such bits with this bracket, where it is known that its bounds have no fault.
-/// Whether there is none.
+/// Whether there is no fault.
 pub(crate) fn check_bounds<'a>(
     scope: &Scope,
     bits: Selected<'a>,
@@ -57,7 +57,7 @@ pub(crate) fn check_bounds<'a>(
 }
 
 /// Reports an indexed part of such bits whose base is constant and that is not inside of their range. Whether there is
-/// none.
+/// no fault.
 pub(crate) fn check_slid<'a>(
     scope: &Scope,
     bits: Selected<'a>,

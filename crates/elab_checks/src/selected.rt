@@ -83,7 +83,7 @@ impl<'a> Selected<'a> {
     }
 
     /// Reports a part with this bracket of less than one bit, of more than 128, or not inside of the range. Whether it
-    /// is none of these.
+    /// is not any of these.
     pub(crate) fn check_part(
         self,
         bracket: Place,

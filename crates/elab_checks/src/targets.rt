@@ -36,7 +36,7 @@ pub fn check_target<'a>(scope: &Scope, mode: Mode, expr: &'a Expr, tally: &mut T
     }
 }
 
-/// The faults of targets in order; whether they have none.
+/// The faults of targets in order; whether they have no fault.
 #[cycle(targets)]
 fn check_all_targets<'a>(
     scope: &Scope,

@@ -211,7 +211,7 @@ fn memory_sort(words: Option<Range>) -> Sort
     }
 }
 
-/// Adds the names that an item declares (IEEE 1364-2001 clause 3), and tells the faults of its ranges.
+/// Adds the names that an item declares (IEEE 1364-2001 clause 3), and reports the faults of its ranges.
 fn declare_item<'a>(
     alloc: Global,
     scope: &Scope,

@@ -74,7 +74,7 @@ fn set_of<'a>(alloc: Global, names: &[NameAt<'a>]) -> Result<NameSet<'a>, NoMemo
     Ok(set)
 }
 
-/// Which connections name none of the names, and which are given twice; whether there are none.
+/// Which connections name none of the names, and which are given twice; whether there is no such connection.
 fn check_names<'a>(
     alloc: Global,
     names: &[NameAt],

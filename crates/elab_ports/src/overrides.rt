@@ -55,7 +55,7 @@ fn free_names<'a>(alloc: Global, definition: &'a Module) -> Result<Vec<NameAt<'a
     Ok(names)
 }
 
-/// The faults of the values, which must be constant; whether they have none.
+/// The faults of the values, which must be constant; whether they have no fault.
 fn check_values<'a>(scope: &Scope, overrides: &[Connection<'a>], tally: &mut Tally<'a>) -> bool
     ensures met { tally.new ≡ after_faults tally.old (flat_map (λ c. spec.override_value_faults (binding_of scope.now) c.value) (connections_view overrides.now)) }
     ensures sound { result ≡ none (flat_map (λ c. spec.override_value_faults (binding_of scope.now) c.value) (connections_view overrides.now)) }

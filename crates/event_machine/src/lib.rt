@@ -3,7 +3,7 @@
 //!
 //! A machine says which things each process is sensitive to, what it may write, and what its evaluation writes
 //! (`specs/Machine.antt`). The theorems hold for any such machine, any values, and any division of the inputs into
-//! those whose change over a step is given, which are called told, and those that may move in any step: what wakes a
+//! those whose change over a step is given (`is_told`), and those that may move in any step: what wakes a
 //! process ([`waking_law`]), what keeps its value ([`rest_law`]), when a process is evaluated on settled values
 //! ([`settled_law`]), that a clean block is evaluated exactly once ([`edge_law`]), and that the sets of a step are
 //! the least ones ([`least_law`]).
@@ -25,7 +25,7 @@ pub fn waking_law<V>()
 {}
 
 /// In a step no thing changes at any event unless it may move, and a Clocked that cannot wake is not evaluated.
-/// Where all inputs are told and none changes there is no event.
+/// Where the changes of all inputs are given and no input changes there is no event.
 pub fn rest_law<V>()
     ensures rest { (m : Machine V) → IsLawful m → RestLaw m }
     ensures unchanged { (m : Machine V) → IsLawful m → UnchangedLaw m }

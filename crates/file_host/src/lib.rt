@@ -1,4 +1,4 @@
-//! The host that is the system: [`FileHost`] keeps its files, its standard output and its standard error behind
+//! The host that is the system: [`FileHost`] gives access to its files, its standard output and its standard error by
 //! the trait `cov_host::Host`.
 //!
 //! It is proved to be a host: its calls change no more than they may, and a call that fails is counted. That the system

@@ -77,7 +77,7 @@ fn failing_host(alloc: Global, number: u64) -> Result<MemoryHost, NoMemory> {
     Ok(host)
 }
 
-/// Whether the bytes are this text, or missing where there is none.
+/// Whether the bytes are this text, or missing where there is no text.
 fn is_text(bytes: Option<&[u8]>, text: Option<&str>) -> bool {
     match (bytes, text) {
         (Some(bytes), Some(text)) => bytes == text.as_bytes(),

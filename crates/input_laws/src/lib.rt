@@ -26,7 +26,7 @@ pub fn exact_law()
 {}
 
 /// The worked case: a dump of two inputs, what toggles in it, and what a row of its table may say of a point that is hit. A
-/// design with a register is none of inputs alone.
+/// design with a register is not one of inputs alone.
 pub fn worked_case()
     ensures run { IsWorkedRun }
     ensures toggles { AreWorkedToggles }

@@ -37,7 +37,7 @@ fn placed_points(alloc: Global, db: &Db) -> Result<Vec<Traced<'_>>, NoMemory>
     Ok(points)
 }
 
-/// Sorted points, those that the order does not tell apart joined.
+/// Sorted points, those that the order does not distinguish joined.
 fn join_neighbours<'a>(alloc: Global, sorted: &[Traced<'a>]) -> Result<Vec<Traced<'a>>, NoMemory>
     requires { IsSorted traced_cmp sorted.now }
     ensures { IfOk result (λ joined. joined.items ≡ gathered traced_cmp joined_traced sorted.now) }

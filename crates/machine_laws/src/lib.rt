@@ -1,8 +1,8 @@
 //! Theorems that join the states and arcs marked in a step with what the replay reports of them; there is no code.
 //!
 //! Where the toggles of what may move are marked, and then the machines (`specs/Followed.antt`), each verdict is the one
-//! before with what the step reports of its point ([`follow_law`]). The states of a signal that does not move need not be marked once they were told
-//! at a step before, and each step tells all of them
+//! before with what the step reports of its point ([`follow_law`]). The states of a signal that does not move need not be marked once they were reported
+//! at a step before, and each step reports all of them
 //! ([`told_law`]). [`seen_law`] is of the masks of toggles, and [`arcs_law`] of the values of an arc.
 #![tactic(auto)]
 
@@ -13,7 +13,7 @@ pub fn follow_law()
     ensures { FollowLaw }
 {}
 
-/// After a step each state was told.
+/// After a step each state was reported.
 pub fn told_law()
     ensures { ToldLaw }
 {}

@@ -9,7 +9,7 @@ use crate::Slot;
 use cov_host::NoMemory;
 use std::alloc::Global;
 
-/// The columns of a row, from the least to the greatest. There are none where the least is greater.
+/// The columns of a row, from the least to the greatest. There is no column where the least is greater.
 #[derive(Clone, Copy, Debug, PartialEq, Eq)]
 pub(crate) struct Range {
     pub(crate) least: usize,

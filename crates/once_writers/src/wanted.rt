@@ -38,7 +38,7 @@ fn is_event(rising: &Rows<u32>, falling: &Rows<u32>, thing: usize) -> bool
     !rising.row(thing).is_empty() || !falling.row(thing).is_empty()
 }
 
-/// Whether a flag is set. There is none after the last one.
+/// Whether a flag is set. There is no flag after the last one.
 pub(crate) fn is_set(flags: &[bool], place: usize) -> bool
     ensures { result ≡ flag_at flags.now place }
 {

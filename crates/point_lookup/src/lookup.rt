@@ -29,7 +29,7 @@ pub fn find_point(db: &Db, address: &[u8]) -> Option<usize>
     }
 }
 
-/// A place at which the order cannot tell the point from the key.
+/// A place at which the order cannot distinguish the point from the key.
 fn search_points(points: &[DbPoint], key: &Key<'_>) -> Option<usize>
     requires { Rises (λ a b. address_cmp a.address b.address) points.now }
     ensures { IsSearch points.now (seen key.now) result }

@@ -36,7 +36,7 @@ fn words_of(alloc: Global, names: &[&'static str]) -> Result<Words, NoMemory> {
     Ok(words)
 }
 
-/// The design that sources stand for under a top.
+/// The design that sources represent under a top.
 pub(crate) fn design_of(alloc: Global, texts: &[Source], top: &str) -> Option<Design>
     ensures { IfSome result (λ design. IsLawfulDesign (design_view design)) }
 {

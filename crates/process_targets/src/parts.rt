@@ -30,7 +30,7 @@ pub(crate) fn leaf_places(design: &Design, leaf: &Leaf) -> u128
     }
 }
 
-/// The places of all bits of a signal. A memory has none.
+/// The places of all bits of a signal. A memory has no places.
 pub fn all_places(design: &Design, thing: u32) -> u128
     requires { IsLawfulDesign (design_view design.now) }
     ensures { (i : ℕ) → is_set result i ≡ nat_lt i (signal_at (design_view design.now) thing).width }
@@ -42,7 +42,7 @@ pub fn all_places(design: &Design, thing: u32) -> u128
 }
 
 /// The places of a part of a signal, by the index of its lowest bit and its number of bits. By an index that is not
-/// constant it may be any of the signal's, and by one with an x or z it is none (IEEE 1364-2001, 4.2.1).
+/// constant it may be any of the signal's, and by one with an x or z there is no place (IEEE 1364-2001, 4.2.1).
 fn part_places(design: &Design, thing: u32, low: &Term, width: u8) -> u128
     requires lawful { IsLawfulDesign (design_view design.now) }
     requires right { IsRightLeaf (design_view design.now) (thing, Some (term_view low.now, width)) }

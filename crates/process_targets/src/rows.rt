@@ -74,7 +74,7 @@ fn bits_of(
     Ok(row)
 }
 
-/// Adds the bits that a part of a target may write. A word of a memory has none.
+/// Adds the bits that a part of a target may write. A word of a memory has no such bits.
 fn add_leaf(
     design: &Design,
     leaf: &Leaf,

@@ -81,7 +81,7 @@ fn is_listed(points: &Points, number: u32) -> bool
     (number as usize) < count
 }
 
-/// The number of the point of a spot of a process, and some number where there is none.
+/// The number of the point of a spot of a process, and some number where there is no such point.
 fn number_of(marks: &Marks, process: u32, spot: Spot) -> u32
     ensures { (points : ThePoints) (k : ℕ) → AreMarksOf points marks.now → IsVisitOf points k (visit_at process (spot_of spot)) → result ≡ k }
 {

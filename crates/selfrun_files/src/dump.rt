@@ -60,7 +60,7 @@ impl GeneratedDump {
         }
     }
 
-    /// Moves the next bytes into the front of the piece, and says how many. There are none only at the end.
+    /// Moves the next bytes into the front of the piece, and says how many. Only at the end there is no next byte.
     pub(crate) fn read(&mut self, piece: &mut [u8]) -> usize
         requires { IsWithin self.old }
         ensures length { length piece.new ≡ length piece.old }

@@ -52,7 +52,7 @@ pub fn first_time_law()
     ensures { FirstTimeLaw }
 {}
 
-/// The last of several times before the next is listed and of the window, and there is none between it and the one before.
+/// The last of several times before the next is listed and of the window, and there is no listed time between it and the one before.
 pub fn next_time_law()
     ensures { NextTimeLaw }
 {}

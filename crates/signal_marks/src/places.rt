@@ -19,7 +19,7 @@ pub struct Toggling {
     pub signal: u32,
     /// Whether they go from 0 to 1, and else from 1 to 0.
     pub rise: bool,
-    /// The time of the step, where it is not sure that they toggle. They are hit where there is none.
+    /// The time of the step, where it is not sure that they toggle. They are hit where there is no time.
     pub doubt: Option<u64>,
 }
 

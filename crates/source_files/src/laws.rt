@@ -11,7 +11,7 @@ pub fn missing_names_are_printable()
     ensures { (sources : List SourceText) (defines : List DefineText) (name : List ℕ) → Lacks sources defines name → IsTrue (is_file_name name) }
 {}
 
-/// Where the host tells its files, the files that words name have one list of sources.
+/// Where the files of the host are known, the files that words name have one list of sources.
 pub fn one_list()
     ensures { (before : Outside) (names : List (List ℕ)) (folder : Option (List ℕ)) (defines : List DefineText) (sources others : List SourceText) → IsSome before.files → AreSources before names folder defines sources → AreSources before names folder defines others → sources ≡ others }
 {}

@@ -16,7 +16,7 @@ pub fn steps_law()
 {}
 
 /// How words have changed once the Clocked have run is how they have as the Assigns and Combs start, and these leave the words: they
-/// make none anew, and the dump has none. So nothing is known of a word after the first step.
+/// make none anew, and the dump has no words. So nothing is known of a word after the first step.
 pub fn words_law()
     ensures start { WordsLaw }
     ensures kept { KeptWordsLaw }

@@ -50,7 +50,7 @@ impl StepValues {
         self.before[signal as usize]
     }
 
-    /// What is known of a signal before the step, where this is known of it after the step. A time that the dump does not list may stand for
+    /// What is known of a signal before the step, where this is known of it after the step. A time that the dump does not list may represent
     /// more such times, so there it is what is the same before and after.
     pub fn before_step(&self, signal: u32, after: &Known, listed: bool) -> Known
         requires place { signal < length self.now.before }

@@ -46,7 +46,7 @@ pub fn find<T: Turns>(wakes: &mut Wakes, changes: &[SignalChange], turns: &mut T
     wakes.settle(turns);
 }
 
-/// Tells the change of a signal.
+/// Reports the change of a signal.
 fn tell(wakes: &mut Wakes, change: &SignalChange)
     requires { change.now.signal < (state_of wakes.old).tables.things }
     ensures rest { state_of wakes.new ≡ record (state_of wakes.old) { own = slice_set (state_of wakes.old).own change.now.signal (edges_between change.now.old change.now.new); noted = (state_of wakes.new).noted; changed = (state_of wakes.new).changed } }

@@ -24,7 +24,7 @@ pub(crate) struct WordChange {
 /// their bits.
 #[derive(Drop)]
 pub(crate) struct MemoryBefore {
-    /// The words, from the least index up. A memory that is not followed has none here.
+    /// The words, from the least index up. A memory that is not followed has no words here.
     words: Vec<Known>,
     /// How many of the words are not wholly sure.
     unsure: usize,

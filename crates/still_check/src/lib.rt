@@ -1,8 +1,8 @@
 //! The signals of which the dump says something else than what is known once the Clocked have run: those whose value changes in a step
 //! though nothing may move them, and those that a Clocked has made. The dump contradicts them before any Assign or Comb has run.
 //!
-//! [`first_moved`] finds the one of these with the least number, or none only where there is none (`specs/Stays.antt`). Where there
-//! is none, what the dump says of what may not move is what was known ([`stays_law`]), and nothing that a Clocked assigns contradicts
+//! [`first_moved`] finds the one of these with the least number, and gives none only where there is no such signal (`specs/Stays.antt`). Where there
+//! is no such signal, what the dump says of what may not move is what was known ([`stays_law`]), and nothing that a Clocked assigns contradicts
 //! the step ([`agrees_law`]); where there is one, it contradicts the step ([`moved_law`]).
 #![tactic(auto)]
 

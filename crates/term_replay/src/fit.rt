@@ -1,4 +1,4 @@
-//! A value at the width and with the sign of its term, and the terms that stand alone.
+//! A value at the width and with the sign of its term, and the terms that are a number, a signal, `$signed` or `$unsigned`.
 
 ghost use Rattle.std.specs.Prelude.{◌≡◌, ℕ, Bool, [], Option, false};
 ghost use Rattle.known_state.specs.Partly.{is_whole, whole_of};

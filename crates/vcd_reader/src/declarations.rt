@@ -143,7 +143,7 @@ fn path_of(alloc: Global, scopes: &[Option<Name>]) -> Result<Name, NoMemory>
     Ok(path)
 }
 
-/// The bytes of a name, which is empty where there is none.
+/// The bytes of a name, empty where there is no name.
 fn bytes_of(name: &Option<Name>) -> &[u8]
     ensures { result.now ≡ scope_text name.now }
 {

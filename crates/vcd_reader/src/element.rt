@@ -67,7 +67,7 @@ pub(crate) fn read_kept(
     }
 }
 
-/// Reads the word of these bytes, which begins at this byte. Where there are none, nothing is said.
+/// Reads the word of these bytes, which begins at this byte. Where there is no byte, nothing is said.
 #[inline(always)]
 pub(crate) fn read_whole(
     codes: &Codes,

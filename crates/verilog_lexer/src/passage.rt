@@ -46,7 +46,7 @@ impl<'a> Passage<'a> {
         self.unclosed = self.unclosed.saturating_sub(length);
     }
 
-    /// How many bytes there are behind the quote at the front up to the end of the one that closes it on its line. Where
+    /// How many bytes there are after the quote at the front up to the end of the one that closes it on its line. Where
     /// none does, no later quote of the line is closed either, and the line is not gone through again.
     pub(crate) fn through_quote(&mut self) -> Option<usize>
         requires { slice_index self.old.text.now 0 ≡ 34 }

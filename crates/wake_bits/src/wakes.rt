@@ -30,7 +30,7 @@ pub struct Wake {
     /// The signal or memory.
     pub thing: u32,
     /// The places of the bits of a signal that the process does not itself write, from the lowest bit up. A memory has
-    /// none.
+    /// no such places.
     pub mask: u128,
     /// Whether the body mentions it. What the body does not mention is in the list of names of a Comb.
     pub mentioned: bool,
@@ -144,7 +144,7 @@ fn wake_list(
     Ok(list)
 }
 
-/// The places of the bits of a signal that are not in a row. A memory has none.
+/// The places of the bits of a signal that are not in a row. A memory has no such places.
 fn wake_places(design: &Design, row: &[Bits], places: &[usize], thing: u32) -> u128
     requires lawful { IsLawfulDesign (design_view design.now) }
     requires size { length places.now ≡ length design.now.signals }

@@ -73,7 +73,7 @@ fn open_to_read<H: Host>(host: &mut H, name: &str) -> Result<(), FileFault>
     }
 }
 
-/// Reads the next bytes of the file to the end of `bytes`. Only at the end of the file there are none.
+/// Reads the next bytes of the file to the end of `bytes`. Only at the end of the file there is no next byte.
 fn read_some<H: Host>(host: &mut H, piece: &mut [u8], bytes: &mut Vec<u8>) -> Result<(), FileFault>
     requires reading { (H.outside host.old).reading ≡ true }
     requires piece { piece.old ≢ [] }

@@ -1,5 +1,5 @@
 //! Worked examples of the definitions of the state machines in a step: how sure a state or an arc is, which verdicts are changed, the
-//! machines of a signal, and what was told.
+//! machines of a signal, and what was reported.
 
 ghost use Rattle.cover_points.specs.declared.listing.Points.{Points};
 ghost use Rattle.worked_examples.specs.Machine.Followed.{IsFollowedExample, IsStepExample, IsToldExample};
@@ -25,12 +25,12 @@ pub fn index_example()
     ensures { IsIndexExample }
 {}
 
-/// A state that was told: as hit where it surely is, as hit or left open where it may be.
+/// A state that was reported: as hit where it surely is, as hit or left open where it may be.
 pub fn told_example()
     ensures { IsToldExample }
 {}
 
-/// A step in which one of two signals moves: of the machine of the other one its states alone are marked, where none was told.
+/// A step in which one of two signals moves: of the machine of the other one its states alone are marked, where no state was reported.
 pub fn followed_example()
     ensures { (ps : Points) → HasOneMachine ps → IsFollowedExample ps }
 {}

@@ -10,7 +10,7 @@ const HEAD: &str = "module m(input clk, input [1:0] a, input [1:0] b, input [0:1
   always @(posedge clk) begin
 ";
 
-/// What each capital letter may stand for, one way on each line: `B` a body, `S` a statement, `Q` one inside of it, `A` an
+/// What each capital letter may represent, one way on each line: `B` a body, `S` a statement, `Q` one inside of it, `A` an
 /// assignment, `L` and `J` arms of a case, `G` a label, `T` a term, `F` a smaller one, `P` an operand.
 const RULES: &str = "
 B S S S
@@ -121,7 +121,7 @@ struct Writer {
 }
 
 impl Writer {
-    /// Writes what a letter stands for.
+    /// Writes what a letter represents.
     fn write(&mut self, letter: u8, depth: usize) {
         let rule = self.rule_of(letter);
         for byte in rule.as_bytes() {

@@ -22,7 +22,7 @@ impl Random {
         self.state >> 33
     }
 
-    /// A number below this one, 0 if there is none.
+    /// A number below this one, 0 if there is no such number.
     pub(crate) fn below(&mut self, end: usize) -> usize
         ensures { result ≡ 0 ⊎ result < end }
     {

@@ -1,5 +1,5 @@
 //! What is known before a run, as digits: of the signals in order and then of the words. `0`, `1`, `x` and `z` are known, `?`
-//! is not. None stands for want of memory.
+//! is not. None means want of memory.
 
 use crate::random_bodies::random::Random;
 use body_trials::{Given, Outcome, add_digits, known_of};

@@ -74,7 +74,7 @@ fn ended(alloc: Global, command: &Command, call: u64) -> Result<Outcome, NoMemor
     Ok(Outcome { status, host })
 }
 
-/// The content of a file, or nothing where there is none.
+/// The content of a file, or nothing where there is no such file.
 fn content<'a>(host: &'a MemoryHost, name: &str) -> &'a [u8] {
     host.file(name).unwrap_or(b"")
 }

@@ -19,7 +19,7 @@ fn order_of_ranks(rt: HostRuntime) {
     assert!(rt; matches!(keeps_order(rt.alloc()), Ok(true)));
 }
 
-/// A list for no process has none, and one that is emptied is used again.
+/// A list for no process contains no process, and one that is emptied is used again.
 fn empties(alloc: Global) -> Result<bool, NoMemory> {
     let mut none = WakeList::new(alloc, 0)?;
     let nothing = none.take().is_none() && none.is_empty();

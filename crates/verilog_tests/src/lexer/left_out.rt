@@ -4,7 +4,7 @@ use cov_host::{Bytes, NoMemory, Text};
 use std::alloc::Global;
 use verilog_lexer::Defines;
 
-/// A line of so many quotes that is left out, none of which is closed, since each but the first is behind a backslash.
+/// A line of so many quotes that is left out, none of which is closed, since each except the first is after a backslash.
 /// On the line the condition ends, and two names follow.
 fn open_quotes(alloc: Global, quotes: usize) -> Result<Bytes, NoMemory> {
     let mut text = Text::new(alloc);
@@ -16,7 +16,7 @@ fn open_quotes(alloc: Global, quotes: usize) -> Result<Bytes, NoMemory> {
     Ok(text)
 }
 
-/// Whether the directive behind so many quotes is read.
+/// Whether the directive after so many quotes is read.
 fn passes_over_quotes(alloc: Global, quotes: usize) -> Option<bool> {
     let sources = of_bytes(alloc, open_quotes(alloc, quotes).ok()?)?;
     Some(gives(alloc, &sources, &Defines::new(alloc), "x`y"))

@@ -6,7 +6,7 @@ use std::alloc::Global;
 use verilog_parser::ParseKind;
 
 /// A text whose middle is nested so many times, and the fault in it at a line and a column, 0 where there is
-/// none.
+/// no fault.
 struct Deep {
     text: [&'static str; 4],
     count: usize,

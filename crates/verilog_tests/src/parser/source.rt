@@ -14,7 +14,7 @@ pub(crate) fn joined(alloc: Global, parts: &[&str]) -> Result<Bytes, NoMemory> {
     Ok(all)
 }
 
-/// The modules of a source, or its fault. There is none if it cannot be lexed.
+/// The modules of a source, or its fault. There is no result if it cannot be lexed.
 pub(crate) fn parsed(alloc: Global, source: Bytes) -> Option<Result<Sequence<Module>, ParseFault>> {
     let mut sources = Sources::new(alloc);
     sources.add_root("m.v", source).ok()?;
