@@ -55,7 +55,7 @@ if_certain false ws = weaken ws
 abbrev pub is_sure_signal : Scene → ℕ → Bool
 is_sure_signal v x = nat_lt x (length v.design.signals) && all_sure (map v.kept (signal_cells v.design x))
 
--- bodies do not tell the two apart: only signals of which all bits are sure, which are never to blame, may differ in their blame
+-- bodies do not distinguish the two: only signals of which all bits are sure, which are never to blame, may differ in their blame
 pub record Like (v w : Scene) : Type 0 where
   pub design : w.design ≡ v.design
   pub kept : w.kept ≡ v.kept

@@ -301,7 +301,7 @@ HasTime quiet x = ⊥
 HasTime (perhaps time thing) x = (x.time ≡ time) × (x.thing ≡ thing)
 HasTime (weak time thing) x = (x.time ≡ time) × (x.thing ≡ thing)
 
--- *doubt as told*: a doubt has the time of the way, and with perhaps and weak its thing
+-- *doubt as given*: a doubt has the time of the way, and with perhaps and weak its thing
 abbrev pub DoubtAsTold : Type 0
 DoubtAsTold = (d : Design) (s : Stmt) (st : Store) (how : Certainty) (n : Note) (x : Doubted) → In n (outcome d s st how).notes → n.doubt ≡ Some x → HasTime how x
 

@@ -54,7 +54,7 @@ accepts Covered value = length value == 0
 accepts Output value = is_file_name value
 accepts Point value = is_file_name value
 
--- `merge` and `lcov` have `-o` alone, `report` has all options but `-point`, `rank` has none, and `exclude` and `restore` have `-o` and `-point`
+-- `merge` and `lcov` have `-o` alone, `report` has all options except `-point`, `rank` has no option, and `exclude` and `restore` have `-o` and `-point`
 abbrev pub has_option : DatabaseCommand → DatabaseOption → Bool
 has_option Merge Output = true
 has_option Merge option = false

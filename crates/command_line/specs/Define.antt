@@ -15,7 +15,7 @@ is_equals byte = byte == 61
 abbrev pub name_of : List ℕ → List ℕ
 name_of value = before_first is_equals value
 
--- the value's bytes after its first `=`, or `1` where there is none
+-- the value's bytes after its first `=`, or `1` where there is no `=`
 abbrev pub text_of : List ℕ → List ℕ
 text_of value = if is_some (position is_equals value) then after_first is_equals value else codes "1"
 

@@ -1,4 +1,4 @@
--- Items in order, where those that the order does not tell apart are joined to one.
+-- Items in order, where those that the order does not distinguish are joined to one.
 use Rattle.std.specs.Prelude.{List, [], ◌∷◌}
 use Rattle.std.specs.List.{fold}
 use Rattle.std.specs.declared.cmp.Ordering.{Ordering}

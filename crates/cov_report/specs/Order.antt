@@ -18,6 +18,6 @@ written_cmp (Line m a v) (Line n b w) = ordering_then (place_cmp a b) (bytes_cmp
 written_cmp (Logic m a o c) (Logic n b p d) = ordering_then (place_cmp a b) (bytes_cmp (operator_text o) (operator_text p))
 written_cmp _ _ = Equal
 
--- the order of point lines without their instances; where that does not tell two points apart, by what else is written
+-- the order of point lines without their instances; where that does not distinguish two points, by what else is written
 abbrev pub subject_cmp : Subject → Subject → Ordering
 subject_cmp a b = ordering_then (nat_cmp (letter_rank a) (letter_rank b)) (ordering_then (rule_cmp a b) (written_cmp a b))

@@ -26,7 +26,7 @@ example_owners = 1 ∷ 2 ∷ 1 ∷ []
 abbrev pub example_verdicts : List Verdict
 example_verdicts = Hit ∷ Missed ∷ Undetermined (record { thing = 1; time = 5 }) ∷ Missed ∷ []
 
--- process 2 has a point that is missed, and process 1 one in doubt; process 0 has none
+-- process 2 has a point that is missed, and process 1 one in doubt; process 0 has no such point
 pub record IsOpenExample : Type 0 where
   pub none : open_of 0 example_owners example_verdicts ≡ 0
   pub doubt : open_of 1 example_owners example_verdicts ≡ 1

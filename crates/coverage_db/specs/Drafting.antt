@@ -144,12 +144,12 @@ next_end number draft line = if bytes_eq line (codes "end") then Ok (record draf
 unfoldable pub next_window_count : ℕ → Draft → List ℕ → Result Draft DbFault
 next_window_count number draft line = or_else (window_count_of line) (λ digits. Ok (record draft { stage = stage.Windows; window_count = digits })) (bad number)
 
--- what a text of this version has behind its points
+-- what a text of this version has after its points
 abbrev pub next_behind : Version → ℕ → Draft → List ℕ → Result Draft DbFault
 next_behind version.One number draft line = next_end number draft line
 next_behind version.Two number draft line = next_window_count number draft line
 
--- what is behind the points, where their number is right
+-- what is after the points, where their number is right
 unfoldable pub next_counted : ℕ → Draft → List ℕ → Result Draft DbFault
 next_counted number draft line =
     if bytes_eq draft.count (decimal (length draft.db.points)) then next_behind draft.version number draft line

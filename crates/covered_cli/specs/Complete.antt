@@ -65,7 +65,7 @@ pub record LacksPoints (score : ScoreValues) (before : Outside) : Type 0 where
   pub stands : StandFor sources (sources_in score).defines score.top design
   pub refused : (ms : StateMachines) → AreMachinesOf score (design_view design) ms → HasFewPoints (design_view design) ms → ⊥
 
--- the sources have a design, and the text of the dump is none that has the instance, and in each stretch a first value of each signal that it has
+-- the sources have a design, and the text of the dump is not one that has the instance, and in each stretch a first value of each signal that it has
 pub record HasBadDump (score : ScoreValues) (before : Outside) : Type 0 where
   pub text : List ℕ
   pub design : Design

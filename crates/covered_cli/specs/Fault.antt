@@ -229,7 +229,7 @@ IsScoringFault score design before after (fault.Dump refusal) = (text : List ℕ
 IsScoringFault score design before after (fault.Contradiction x) = (text : List ℕ) × IsFile before score.dump text × IsContradictedText (habit_in score) design score.instance text x
 IsScoringFault score design before after other = IsReadingFault score.dump before after other
 
--- the fault is none of sources or points, none of a dump or its contradiction, none of a file, none of a command over databases, and none of a selfrun
+-- the fault is not of sources or points, nor of a dump or its contradiction, nor of a file, nor of a command over databases, nor of a selfrun
 abbrev pub IsPlain : Fault → Type 0
 IsPlain (fault.Source f) = ⊥
 IsPlain (fault.Points f) = ⊥

@@ -82,7 +82,7 @@ IsGoodRank rank before = (first : Db) × HasTable before rank.first first × Hav
 
 -- ---- files one after the other
 
--- the merge of the tables before this one with this one, or why there is none
+-- the merge of the tables before this one with this one, or why there is no such merge
 abbrev pub IsJoined : Db → Db → List ℕ → Result Db CommandFault → Type 0
 IsJoined table other name (Ok joined) = IsTable joined × SameDesign table other × (joined ≡ merged table other)
 IsJoined table other name (Err fault) = IsJoinFault table other name fault

@@ -50,7 +50,7 @@ abbrev pub with_addresses : List (List ℕ) → List ℕ → List ℕ
 with_addresses [] text = text
 with_addresses (first ∷ others) text = text_of_lines (opening (decimal (length (first ∷ others))) (first ∷ others)) ++ text
 
--- the text of a table with its excluded points; where there is none, the plain text of the table
+-- the text of a table with its excluded points; where there is no excluded point, the plain text of the table
 abbrev pub excluded_text : Exclusion → List ℕ
 excluded_text e = with_addresses (addresses e) (text_of e.table)
 

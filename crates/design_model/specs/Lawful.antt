@@ -87,7 +87,7 @@ abbrev mutual
   arm_sizes no_arms = 0
   arm_sizes (arm labels s arms) = size s + arm_sizes arms
 
--- the statements of a process; an Assign has none
+-- the statements of a process; an Assign has no statement
 abbrev pub size_of : Process → ℕ
 size_of (assign i x t counted) = 0
 size_of (comb i wakes s) = size s

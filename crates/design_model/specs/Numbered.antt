@@ -39,7 +39,7 @@ abbrev mutual
   arm_lines no_arms = []
   arm_lines (arm labels s arms) = lines s ++ arm_lines arms
 
--- the line points of a process; an Assign has none
+-- the line points of a process; an Assign has no line point
 abbrev pub lines_of : Process → List LineAt
 lines_of (assign i x t counted) = []
 lines_of (comb i wakes s) = lines s

@@ -63,7 +63,7 @@ named_word m None = None
 named_word m (Some (negsuc k)) = None
 named_word m (Some (pos k)) = if nat_le (min m.first m.last) k && nat_le k (max m.first m.last) then Some k else None
 
--- the bits of a word, all x if there is none
+-- the bits of a word, all x if there is no word
 abbrev pub option_word : Design → Values Bit → ℕ → Option ℕ → List Bit
 option_word d v m None = fill (memory_at d m).width X
 option_word d v m (Some i) = word_bits d v m i

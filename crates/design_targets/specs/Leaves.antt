@@ -46,6 +46,6 @@ abbrev pub part_view : Option (Bor CodeTerm × ℕ) → Option (Term × ℕ)
 part_view None = None
 part_view (Some (low, w)) = Some (term_view low.now, w)
 
--- the part that a part of the code stands for
+-- the part that a part of the code represents
 abbrev pub leaf_view : CodeLeaf → Leaf
 leaf_view l = (l.thing, part_view l.part)

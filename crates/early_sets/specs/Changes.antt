@@ -7,7 +7,7 @@ use Rattle.early_sets.specs.declared.changes.Changes.{Changes}
 use Rattle.early_sets.specs.Edges.{any_edges, no_edges}
 use Rattle.early_sets.specs.Has.{is_in}
 
--- the thing is an input whose changes are told
+-- the thing is an input whose changes are reported
 abbrev pub is_told_by : List Bool → ℕ → Bool
 is_told_by told x = slice_index_or told x false
 
@@ -15,7 +15,7 @@ is_told_by told x = slice_index_or told x false
 abbrev pub is_single_by : List Bool → List ℕ → ℕ → Bool
 is_single_by told derived x = is_told_by told x || is_in derived x
 
--- the edges of its change as it was told, none where none was told
+-- the edges of its change as it was reported, no edge where no change was reported
 abbrev pub own_edges_by : List Bool → List Edges → List ℕ → ℕ → Edges
 own_edges_by told own changed x = if is_told_by told x || is_in changed x then slice_index_or own x no_edges else no_edges
 

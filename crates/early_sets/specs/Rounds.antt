@@ -40,7 +40,7 @@ pub record IsNextRound (n : ℕ) (a b : WakeState) : Type 0 where
   pub some : (x : ℕ) × (becomes_single a x ≡ true)
   pub moves : HasMoves b
 
--- the states of the rounds, the last one first; in round 0 the inputs whose changes are told are single
+-- the states of the rounds, the last one first; in round 0 the inputs whose changes are reported are single
 abbrev pub AreRounds : List WakeState → Type 0
 AreRounds [] = ⊥
 AreRounds (a ∷ []) = (a.derived ≡ []) × HasMoves a

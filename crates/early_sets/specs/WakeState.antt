@@ -11,15 +11,15 @@ use Rattle.early_sets.specs.Edges.{may_be}
 use Rattle.early_sets.specs.Changes.{edges_by, is_single_by, is_told_by, own_edges_by}
 use Rattle.early_sets.specs.Has.{is_in}
 
--- the tables and inputs of a design, what was told of a step, and what is in the sets
+-- the tables and inputs of a design, what was reported of a step, and what is in the sets
 pub record WakeState : Type 0 where
   pub tables : WakeTables
-  pub told : List Bool  -- for each signal or memory whether it is an input whose changes are told
+  pub told : List Bool  -- for each signal or memory whether it is an input whose changes are reported
   pub untold : List ℕ  -- the other inputs
   pub writers : List (Option ℕ)  -- for each the block that writes it, where it may become single
-  pub own : List Edges  -- for each the edges of the change that was told last
+  pub own : List Edges  -- for each the edges of the change that was reported last
   pub noted : List ℕ  -- the inputs that change, or may change
-  pub changed : List ℕ  -- the others whose change was told
+  pub changed : List ℕ  -- the others whose change was reported
   pub derived : List ℕ  -- the others that are single: they change at most once in the step
   pub rounds : List ℕ  -- for each of these the round in which it became single
   pub moves : List ℕ  -- what may move
@@ -44,7 +44,7 @@ state_of w =
       early = w.early.items;
     }
 
--- the thing is an input whose changes are told
+-- the thing is an input whose changes are reported
 abbrev pub is_told : WakeState → ℕ → Bool
 is_told w x = is_told_by w.told x
 
@@ -52,7 +52,7 @@ is_told w x = is_told_by w.told x
 abbrev pub is_single : WakeState → ℕ → Bool
 is_single w x = is_single_by w.told w.derived x
 
--- the edges of its change as it was told
+-- the edges of its change as it was reported
 abbrev pub own_edges : WakeState → ℕ → Edges
 own_edges w x = own_edges_by w.told w.own w.changed x
 

@@ -1,4 +1,4 @@
--- What the public calls answer, with the faults as they tell them.
+-- What the public calls answer, with the faults as they report them.
 use Rattle.std.specs.Prelude.{◌≡◌, Result, Ok, Err}
 use Rattle.elab_const.specs.Scope.{Fault, fault_at}
 use Rattle.elab_const.specs.declared.fault.ConstFault.{ConstFault}

@@ -74,7 +74,7 @@ abbrev pub on_ok : {A B : Type 0} → Result A Fault → (A → Result B Fault) 
 on_ok (Ok a) k = k a
 on_ok (Err f) k = Err f
 
--- the second is sought only where the first is none
+-- the second is sought only where there is no first
 abbrev pub or_else : Option Fault → Option Fault → Option Fault
 or_else None h = h
 or_else (Some f) h = Some f

@@ -35,7 +35,7 @@ UnchangedLaw {V} m =
     (n : ℕ) (h : Habit) (t : Told V) (k : ToldStep m h t) (c : Cell) → (MayMove m t (IsSingle m t n) c.thing → ⊥)
     → (before after : List (Event V)) → k.events ≡ before ++ after → (end_state m k.start before).values c ≡ k.start.values c
 
--- No-event law: where all inputs are told and none changes, a step has no events.
+-- No-event law: where all inputs are reported and none changes, a step has no events.
 abbrev pub NoEventLaw : {V : Type 0} → Machine V → Type 0
 NoEventLaw {V} m =
     (h : Habit) (t : Told V) (k : ToldStep m h t) → ((c : Cell) → m.is_input c ≡ true → (t.is_told c.thing ≡ true) × (t.old c ≡ t.new c)) → k.events ≡ []
@@ -89,7 +89,7 @@ NetLaw {V} m =
     (h : Habit) (now : ℕ) (s : State V) (xs : List (Timed V)) → IsRun m h now s xs
     → (t p : ℕ) (c : Cell) → m.is_assign p ≡ true → m.blocking p c ≡ true → HasComputed m p c (state_at m t s xs)
 
--- b is evaluated exactly once. On entry its trigger c has the new value, a told input the old or the new value, and each
+-- b is evaluated exactly once. On entry its trigger c has the new value, a reported input the old or the new value, and each
 -- thing that is neither the trigger nor early the value of the step's start; its targets end the step as it leaves them
 pub record EvaluatesOnce {V : Type 0} (m : Machine V) (t : Told V) (single : Cell → Type 0) (h : Habit) (b : ℕ) (c : Cell) (s : State V) (es : List (Event V)) : Type 0 where
   pub entry : Values V

@@ -1,4 +1,4 @@
--- What may move in a step, which process can wake, and which is clean, by what is told of the step.
+-- What may move in a step, which process can wake, and which is clean, by what is reported of the step.
 -- `single` says of which cells it is known that they change at most once in the step, from the old to the new value.
 use Rattle.std.specs.Prelude.{◌≡◌, ◌⊎◌, ℕ, true, false}
 use Rattle.event_machine.specs.Cell.{Cell}
