@@ -161,7 +161,7 @@ module _ {T S : Type 0} (noted : T → List Mark → S → Type 0) (start : T) (
             noted = marked;
           }
 
--- parts without bits are none
+-- where the widths of the parts add up to 0, there is no part
 no_pieces : (d : Design) (xs : List Piece) → AllTake d xs → widths xs ≡ 0 → xs ≡ []
 no_pieces d [] h e = refl
 no_pieces d (x ∷ xs) h e = let one = h.0 in absurd (omega (arith, one, e))

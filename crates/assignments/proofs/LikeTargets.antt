@@ -1,4 +1,4 @@
--- Targets do not tell scenes apart that are alike.
+-- Targets give the same on scenes that are alike.
 use Rattle.std.proofs.Common.{List, Option, [], ap, ap₂, refl, ℕ, ◌++◌, ◌∙◌, ◌∷◌, ◌≡◌}
 use Rattle.design_model.specs.Design.{Design, memory_at, signal_at}
 use Rattle.design_model.specs.Tree.{Target, Targets, a_target, all_of, bits_of, no_targets, several, word_of}

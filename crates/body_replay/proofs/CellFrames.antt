@@ -92,7 +92,7 @@ module _ (d : Design) where
       ∙ value_exact d all_sure_known everything blank (λ x. false) (λ x i. map_sure (cells d x)) t (all_inside _)
 
 module _ (d : Design) (b : Kept) (c : Cell) where
-  -- the cell is none of these
+  -- the cell is not one of these
   abbrev Away : List Cell → Type 0
   Away [] = ⊤
   Away (x ∷ xs) = (same_cell x c ≡ false) × Away xs

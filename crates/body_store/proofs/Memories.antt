@@ -37,7 +37,7 @@ or_false : (b : Bool) → b ≡ (b || false)
 or_false true = refl
 or_false false = refl
 
--- words that stand for a memory are as wide as its words
+-- words that represent a memory are as wide as its words
 pub stands_wide : (d : Design) (k : Kept) (x : ℕ) (r : KnownWords) → StandsFor d k x r → (i : ℕ) → IsIndex r.shape i → length (word_at r i) ≡ r.shape.width
 stands_wide d k x r h i inside =
     let f : ℕ → Cell = λ j. cell x (i * (memory_at d x).width + j) in

@@ -42,7 +42,7 @@ other_value ByInstance next others behind takes other = absurd (false≢true tak
 other_value Covered next others behind takes other = absurd (false≢true takes)
 other_value Point next others behind takes other = absurd (other refl)
 
--- behind an option that takes a value and is not `-point`, the value is passed over where there is one
+-- after an option that takes a value and is not `-point`, the value is passed over where there is one
 pub addresses_among-skip : (word : List ℕ) (option : DatabaseOption) (before after : List (List ℕ)) (found : Option (Bor (List ℕ)))
     → option_named word ≡ Some option
     → takes_value option ≡ true
@@ -56,7 +56,7 @@ addresses_among-skip word option before after (Some value) is takes other some n
     ∙ ap (λ o. address_or_other o value.now (addresses_among (value.now ∷ after)) (addresses_among after)) is
     ∙ other_value option value.now (addresses_among (value.now ∷ after)) (addresses_among after) takes other
 
--- behind `-point` its value is an address where there is one
+-- after `-point` its value is an address where there is one
 pub addresses_among-take : (word : List ℕ) (all before after : List (List ℕ)) (found : Option (Bor (List ℕ)))
     → option_named word ≡ Some Point
     → all ≡ addresses_among (word ∷ before)

@@ -48,7 +48,7 @@ value_in-given items option value other =
       | false ↦ ap (last_or None) (append-nil (values_in items other))
     ]
 
--- items stay so with one more that may stand behind them
+-- items stay so with one more that may follow them
 pub AreItems-push : (command : DatabaseCommand) (before items : List Item) (x : Item) → AreItems command before items → MayFollow command (before ++ items) x → AreItems command before (items ++ x ∷ [])
 AreItems-push command before [] x are may = (subst (λ all. MayFollow command all x) (append-nil before) may, tt)
 AreItems-push command before (y ∷ items) x are may =

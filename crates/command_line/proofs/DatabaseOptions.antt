@@ -1,4 +1,4 @@
--- Options of the commands that read databases are told apart by how they are written.
+-- Options of the commands that read databases are distinguished by how they are written.
 use Rattle.std.proofs.Common.{◌≡◌, ◌∙◌, ℕ, ◌&&◌, Bool, true, false, sym, ap, refl, arith, List, [], ◌∷◌, length, Option, Some, None}
 use Rattle.std.specs.List.{find}
 use Rattle.std.specs.Str.{bytes_eq}

@@ -15,7 +15,7 @@ use Rattle.command_line.proofs.DatabaseOptions.{empty_value, named, named_none, 
 abbrev pub Outcome : Type 0
 Outcome = Result (List Item) (List ℕ)
 
--- a database can stand behind the items
+-- a database can come after the items
 abbrev pub has_place : DatabaseCommand → List Item → List ℕ → Bool
 has_place command items word = is_database_name word && has_room command (length (files_in items) == 0)
 

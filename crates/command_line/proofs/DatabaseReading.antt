@@ -1,4 +1,4 @@
--- What was read of a command that reads databases, and what one more word tells.
+-- What was read of a command that reads databases, and what one more word says.
 use Rattle.std.proofs.Common.{◌≡◌, ◌∙◌, ◌⊎◌, ℕ, ◌==◌, ◌||◌, true, false, cond, sym, ap, refl, subst, arith, inl, inr, List, [], ◌∷◌, ◌++◌, length, append_assoc, append-nil, length-append, Option, Some, None, is_none, is_some}
 use Rattle.std.proofs.lemmas.Bool.{ne_eqb}
 use Rattle.std.specs.Prelude.{unwrap_or}

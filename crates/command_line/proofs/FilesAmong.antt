@@ -22,7 +22,7 @@ files_among-flag word option (next ∷ rest) is none = ap (λ o. file_or_option 
 pub files_among-value : (word value : List ℕ) (option : DatabaseOption) (rest : List (List ℕ)) → option_named word ≡ Some option → takes_value option ≡ true → files_among (word ∷ value ∷ rest) ≡ files_among rest
 files_among-value word value option rest is takes = ap (λ o. file_or_option word o (files_among (value ∷ rest)) (files_among rest)) is ∙ rw takes
 
--- there is no database behind an option that lacks its value
+-- there is no database after an option that lacks its value
 pub files_among-end : (word : List ℕ) (option : DatabaseOption) → option_named word ≡ Some option → files_among (word ∷ []) ≡ []
 files_among-end word option is = ap (λ o. file_or_option word o [] []) is ∙ none_left (takes_value option)
   where
@@ -38,7 +38,7 @@ files_among-given option value rest =
       | inr none ↦ rw none (files_among-flag (option_text option) option rest (option_named_text option) none)
     ]
 
--- behind an option that takes a value, the value is passed over where there is one
+-- after an option that takes a value, the value is passed over where there is one
 pub files_among-skip : (word : List ℕ) (option : DatabaseOption) (before after : List (List ℕ)) (found : Option (Bor (List ℕ)))
     → option_named word ≡ Some option
     → takes_value option ≡ true

@@ -127,7 +127,7 @@ one_restore words a b is_a is_b =
 pub one_selfrun : (words : List (List ℕ)) (a b : SelfrunWords) → IsSelfrun words a → IsSelfrun words b → a ≡ b
 one_selfrun words a b is_a is_b = let e = sym (outcome_of-selfrun words a is_a) ∙ outcome_of-selfrun words b is_b in cc
 
--- ---- words of one kind of command are none of another kind
+-- ---- words of one kind of command are not those of another kind
 
 -- the word that the command begins with
 name_of : CommandValues → List ℕ

@@ -1,4 +1,4 @@
--- Options are told apart by how they are written.
+-- Options are distinguished by how they are written.
 use Rattle.std.proofs.Common.{◌≡◌, ℕ, true, false, List, [], ◌∷◌, length, refl, sym, arith}
 use Rattle.std.proofs.lemmas.Bool.{eqb-true, false≢true}
 use Rattle.command_line.specs.declared.score_option.ScoreOption.{ScoreOption}

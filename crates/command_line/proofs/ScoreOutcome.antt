@@ -31,7 +31,7 @@ abbrev pub at_end : List GivenOption → Option ScoreOption → Outcome
 at_end given None = Ok given
 at_end given (Some option) = Err (codes "missing " ++ option_text option)
 
--- at a word that is this option, if any, and comes to next if it may stand there
+-- at a word that is this option, if any, and comes to next if it may be there
 abbrev pub at_option : List GivenOption → List ℕ → Option ScoreOption → (ScoreOption → Outcome) → Outcome
 at_option given word None next = Err (codes "unknown word " ++ word)
 at_option given word (Some option) next = cond (may_follow given option) (next option) (Err (word ++ codes " given twice"))
@@ -117,7 +117,7 @@ outcome-unknown : (given : List GivenOption) (word : List ℕ) (rest : List (Lis
 outcome-unknown given word [] h = rw h
 outcome-unknown given word (value ∷ rest) h = rw h
 
--- a word that is an option which may not stand there
+-- a word that is an option which may not be there
 outcome-twice : (given : List GivenOption) (word : List ℕ) (rest : List (List ℕ)) (option : ScoreOption) → named word ≡ Some option → may_follow given option ≡ false → outcome given (word ∷ rest) ≡ Err (word ++ codes " given twice")
 outcome-twice given word [] option h twice = rw (h, twice)
 outcome-twice given word (value ∷ rest) option h twice = rw (h, twice)

@@ -1,4 +1,4 @@
--- What was read of a `score` command so far, and what one more word tells.
+-- What was read of a `score` command so far, and what one more word says.
 use Rattle.std.proofs.Common.{◌≡◌, ◌∙◌, ◌||◌, ℕ, Bool, false, true, cond, sym, ap, refl, subst, List, [], ◌∷◌, ◌++◌, append-nil, drop, map, Option, Some, None, IsTrue, arith, is_none, is_some, codes}
 use Rattle.std.specs.List.{AllByRecursion, last_or}
 use Rattle.std.proofs.lemmas.Bool.{false≢true}
@@ -52,7 +52,7 @@ module _ (words all rest : List (List ℕ)) (values : GivenValues) (option : Sco
   may : may_follow read.given option ≡ true
   may = may_follow_read words all values read option ∙ room
 
-  -- it stands last
+  -- it is the last word
   pub needs_value : takes_value option ≡ true → rest ≡ [] → (all ≡ word ∷ []) × NeedsOne read.given word
   needs_value takes end = (first ∙ ap (λ rest. word ∷ rest) end, (option, is_word, may, takes))
 
@@ -110,7 +110,7 @@ module _ (words left : List (List ℕ)) (values : GivenValues) (read : HasRead w
       let form : accepts Late value ≡ true = (subst (AllByRecursion (λ v. IsTrue (accepts Late v))) one (values_accepted read.given Late read.up_to.are_given.forms)).0 in
       one ∙ ap (λ v. v ∷ []) (flag_value Late value refl form)
 
-  -- the first option that is missing is told
+  -- the first option that is missing is reported
   pub missing_stands : (option : ScoreOption) (word : List ℕ) → first_missing (λ needed. is_none (value_of values needed)) ≡ Some option → word ≡ option_text option → IsMissing read.given word
   missing_stands option word missing is_word = (option, missing_read words left values read ∙ missing, is_word)
 

@@ -1,4 +1,4 @@
--- Items in their order, those joined that it does not tell apart.
+-- Items in their order, where those that it does not distinguish are joined.
 use Rattle.std.proofs.Common.{◌≡◌, ℕ, zero, suc, ◌+◌, ◌<◌, ◌≤◌, Bool, true, false, not, ◌&&◌, cond, List, [], ◌∷◌, ◌++◌, length, get_or, take, Option, Some, None, refl, sym, ap, subst, ◌∙◌, add-one, arith}
 use Rattle.std.specs.declared.cmp.Ordering.{Ordering}
 use Rattle.std.specs.declared.cmp.Ordering.TheVariants.{Less, Equal, Greater}
@@ -26,7 +26,7 @@ module _ {X : Type 0} (cmp : X → X → Ordering) (join : X → X → X) (o : I
 
   -- ---- strictly rising lists
 
-  -- all of these stand behind an item
+  -- all of these come after an item
   abbrev Behind : X → List X → Type 0
   Behind x [] = Unit {0}
   Behind x (y ∷ ys) = (cmp x y ≡ Less) × Behind x ys
@@ -86,7 +86,7 @@ module _ {X : Type 0} (cmp : X → X → Ordering) (join : X → X → X) (o : I
   pub gathered_rises : (xs : List X) → Rises cmp (gathered cmp join xs)
   gathered_rises xs = to_rises (gathered cmp join xs) (all_rising xs [] tt)
 
-  -- ---- the item that the order does not tell apart from one
+  -- ---- the item that the order does not distinguish from a given one
 
   abbrev found : X → List X → Option X
   found x [] = None
@@ -205,9 +205,9 @@ module _ {X : Type 0} (cmp : X → X → Ordering) (join : X → X → X) (o : I
       let same : filter (tied z) ys ≡ filter (tied z) xs = ap (λ (p : X → Bool). filter p ys) (λ i x. sym (ties_is z x) i) ∙ stable z ∙ ap (λ (p : X → Bool). filter p xs) (λ i x. ties_is z x i) in
       found_all z ys [] tt ∙ ap (fold (λ i y. added Equal y i) None) same ∙ sym (found_all z xs [] tt))
 
-  -- ---- an item that stands before none
+  -- ---- an item that comes before no other
 
-  -- none of these stands behind an item
+  -- none of these comes after an item
   abbrev UpTo : X → List X → Type 0
   UpTo x [] = Unit {0}
   UpTo x (y ∷ ys) = (is_gt (cmp y x) ≡ false) × UpTo x ys

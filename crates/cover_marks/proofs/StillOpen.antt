@@ -63,7 +63,7 @@ nothing : (b : Bool) → ◌≡◌ {A = ℕ} (cond b 0 0) 0
 nothing true = refl
 nothing false = refl
 
--- and where each is hit, the count is none
+-- and where each is hit, the count is 0
 pub all_hit : (p : ℕ) (os : List ℕ) (vs : List Verdict) → ((k : ℕ) → k < length os → k < length vs → get_or os k 0 ≡ p → get_or vs k Missed ≡ Hit) → open_of p os vs ≡ 0
 all_hit p [] vs h = refl
 all_hit p (o ∷ os) [] h = refl

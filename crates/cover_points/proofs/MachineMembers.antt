@@ -36,7 +36,7 @@ use Rattle.cover_points.proofs.Orders.{machine_total}
 use Rattle.cover_points.proofs.Pieces.{parts_of, whole_of}
 use Rattle.cover_points.proofs.ThingMembers.{in_range, range_in}
 
--- what stands in the lists of one machine
+-- what is in the lists of one machine
 of_states : (xs : List Machine) (k : ℕ) (p : MachinePoint) → k < length xs → In p (states_of k (length (machine_at xs k).names)) → IsPlaced xs p
 of_states xs k p l h =
     let n = length (machine_at xs k).names in

@@ -117,7 +117,7 @@ begins instances p (State name state) e = rw e refl
 begins instances p (Arc name from target) e = rw e refl
 begins instances p (Word name index write) e = rw e refl
 
--- what the points of a draft stand on
+-- what the points of a draft rely on
 pub record Stands (d : Draft) : Type 0 where
   pub at : d.stage ≡ stage.Points
   pub few : length d.db.sources < 2 ^ 32

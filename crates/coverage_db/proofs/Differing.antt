@@ -96,7 +96,7 @@ pub numbered_map : {X : Type 0} (f : X → List ℕ) (k : ℕ) (xs : List X) →
 numbered_map f k [] = refl
 numbered_map f k (x ∷ xs) = ap (λ (ls : List (List ℕ)). f x ∷ ls) (numbered_map f (k + 1) xs)
 
--- items that differ have different lines, and the line behind the items is none of theirs
+-- items that differ have different lines, and the line after the items is not one of theirs
 pub record AreLines {X : Type 0} (same : X → X → Bool) (P : X → Type 0) (f : ℕ → X → List ℕ) (a b : List ℕ) : Type 0 where
   pub unlike : (k : ℕ) (x y : X) → P x → P y → same x y ≡ false → f k x ≢ f k y
   pub alike : (x y : X) → same x y ≡ true → (k : ℕ) → f k x ≡ f k y

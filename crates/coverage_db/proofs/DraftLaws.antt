@@ -184,7 +184,7 @@ rises_last cmp [] x r e = tt
 rises_last cmp (y ∷ []) x r e = (less_is (cmp y x) e, tt)
 rises_last cmp (y ∷ z ∷ xs) x r e = (r.0, rises_last cmp (z ∷ xs) x r.1 e)
 
--- what may stand behind a list that rises makes one that rises
+-- what may follow a list that rises makes one that rises
 pub rises_push : {X : Type 0} (cmp : X → X → Ordering) (xs : List X) (x : X) → Rises cmp xs → follows cmp xs x ≡ true → Rises cmp (xs ++ x ∷ [])
 rises_push cmp xs x r e = rises_last cmp xs x r (ap (λ o. after_last cmp o x) (sym (last_is xs)) ∙ e)
 
@@ -194,7 +194,7 @@ follows_last cmp [] x others r = refl
 follows_last cmp (y ∷ []) x others r = rw r.0 refl
 follows_last cmp (y ∷ z ∷ xs) x others r = follows_last cmp (z ∷ xs) x others r.1
 
--- and what stands next in such a list may stand there
+-- and what comes next in such a list may follow what is before it
 pub follows_in : {X : Type 0} (cmp : X → X → Ordering) (xs : List X) (x : X) (others : List X) → Rises cmp (xs ++ x ∷ others) → follows cmp xs x ≡ true
 follows_in cmp xs x others r = ap (λ o. after_last cmp o x) (last_is xs) ∙ follows_last cmp xs x others r
 
@@ -203,7 +203,7 @@ follows_in cmp xs x others r = ap (λ o. after_last cmp o x) (last_is xs) ∙ fo
 abbrev pub by_address : DbPoint → DbPoint → Ordering
 by_address a b = address_cmp a.address b.address
 
--- what stands before the points
+-- what is before the points
 pub record IsHead (db : Db) : Type 0 where
   pub top : IsIdentifier db.top
   pub sources : All (λ name. IsTrue (is_file_name name)) db.sources
@@ -335,7 +335,7 @@ head_push v d i = ap (λ (ls : List (List ℕ)). version_line v ∷ top_line d.t
 head_only_sources : (v : Version) (d : Db) → d.instances ≡ [] → head_lines v d ≡ version_line v ∷ top_line d.top ∷ source_lines 1 d.sources
 head_only_sources v d none = ap (λ (is : List DbInstance). version_line v ∷ top_line d.top ∷ source_lines 1 d.sources ++ map instance_line is) none ∙ append-nil (version_line v ∷ top_line d.top ∷ source_lines 1 d.sources)
 
--- an instance that stands behind those so far
+-- an instance that comes after those so far
 abbrev following : List DbInstance → DbInstance → Option DbInstance
 following instances i = cond (follows by_path instances i) (Some i) None
 
@@ -421,7 +421,7 @@ counted_part n d line new has e =
       | inr wrong ↦ absurd (no_fault _ new (rw wrong at e))
     ]
 
--- a point that stands behind those so far
+-- a point that comes after those so far
 abbrev following_point : List DbPoint → DbPoint → Option DbPoint
 following_point points p = cond (follows by_address points p) (Some p) None
 
@@ -469,7 +469,7 @@ windows_counted_part n d line new has e =
       | inr wrong ↦ absurd (no_fault _ new (rw wrong at e))
     ]
 
--- a window that stands behind those so far
+-- a window that comes after those so far
 abbrev following_window : List Window → Window → Option Window
 following_window windows w = cond (follows window_cmp windows w) (Some w) None
 

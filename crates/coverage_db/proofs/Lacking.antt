@@ -40,7 +40,7 @@ lacks_more value byte bytes other b = rw (other, b) refl
 abbrev pub is_visible : ℕ → Bool
 is_visible byte = nat_le 33 byte
 
--- the byte stands in no field
+-- the byte is in no field
 pub record IsApart (value : ℕ) : Type 0 where
   pub visible : is_visible value ≡ false
   pub name : continues_name value ≡ false

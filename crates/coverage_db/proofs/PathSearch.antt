@@ -22,13 +22,13 @@ pub rises_tail : {X : Type 0} (cmp : X → X → Ordering) (x : X) (xs : List X)
 rises_tail cmp x [] r = tt
 rises_tail cmp x (y ∷ xs) r = r.1
 
--- the first stands before each other
+-- the first comes before each other one
 rises_head : (x : DbInstance) (xs : List DbInstance) (k : ℕ) (d : DbInstance) → Rises by_path (x ∷ xs) → k < length xs → by_path x (get_or xs k d) ≡ Less
 rises_head x [] k d r within = absurd (omega arith)
 rises_head x (y ∷ xs) zero d r within = r.0
 rises_head x (y ∷ xs) (suc k) d r within = nat_list_cmp_total.trans x.path y.path (get_or xs k d).path r.0 (rises_head y xs k d r.1 (omega arith))
 
--- what stands behind something that is not less is greater
+-- what comes after something that is not less is greater
 behind_is_greater : (x y p : List ℕ) (o : Ordering) → bytes_cmp x y ≡ Less → bytes_cmp x p ≡ o → ordering_index o ≤ ordering_index (bytes_cmp y p)
 behind_is_greater x y p Less less e = omega arith
 behind_is_greater x y p Equal less e =

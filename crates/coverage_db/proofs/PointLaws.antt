@@ -166,7 +166,7 @@ verdict_again instances (Undetermined time path) rises is = rw (number_at_again 
 
 -- ---- fields and the line
 
--- fields behind a first one, each with the space before it
+-- fields after a first one, each with the space before it
 abbrev pub spaced : List (List ℕ) → List ℕ
 spaced [] = []
 spaced (field ∷ fields) = 32 ∷ field ++ spaced fields
@@ -243,7 +243,7 @@ verdict_spaced Hit = refl
 verdict_spaced Missed = refl
 verdict_spaced (Undetermined time path) = simp (append-nil, append_assoc)
 
--- the fields of the line of a point, behind the first
+-- the fields of the line of a point, after the first
 abbrev pub point_words : List DbInstance → DbPoint → List (List ℕ)
 point_words instances p = path_at instances p.address.instance ∷ subject_words p.address.subject ++ codes "=" ∷ verdict_words p.verdict
 

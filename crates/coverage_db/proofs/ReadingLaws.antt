@@ -286,7 +286,7 @@ table_of db head points windows few few_windows = record {
 bare_table : (db : Db) → IsHead db → ArePoints db → db.windows ≡ [] → 3 + length db.sources + length db.instances + length db.points < 2 ^ 32 → IsTable db
 bare_table db head points none few = table_of db head points (no_windows db none) few (omega (arith, none_long db.windows none))
 
--- the lines behind the last point
+-- the lines after the last point
 abbrev tail_lines : Version → List ℕ → Db → List (List ℕ)
 tail_lines version.One windows db = codes "end" ∷ []
 tail_lines version.Two windows db = (window_count_line windows ∷ map window_line db.windows) ++ codes "end" ∷ []

@@ -153,7 +153,7 @@ pub last_takes : (value : ℕ) (bytes front back : List ℕ) → split_last valu
 last_takes value [] front back e = absurd cc
 last_takes value (byte ∷ bytes) front back e = here_takes value byte bytes (split_last value bytes) front back (λ f k h. last_takes value bytes f k h) e
 
--- what the last byte of the value leaves, where these bytes stand before the rest, and this is what it leaves of them
+-- what the last byte of the value leaves, where these bytes are before the rest, and this is what it leaves of them
 abbrev pub or_before : List ℕ → Option (List ℕ × List ℕ) → Option (List ℕ × List ℕ) → Option (List ℕ × List ℕ)
 or_before front before None = before
 or_before front before (Some parts) = Some (front ++ parts.0, parts.1)

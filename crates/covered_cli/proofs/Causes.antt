@@ -131,7 +131,7 @@ stands_as_selfrun words values before after is Memory stands = absurd stands
 stands_as_selfrun words values before after is (Databases f) stands = absurd stands
 stands_as_selfrun words values before after is (PrintingFault f) stands = (values, is, stands)
 
--- what stands in the work of a command stands in the call of the program
+-- a fault of the work of a command is a fault of the call of the program
 pub stands_in_call : (words : List (List ℕ)) (command : Command) (before after : Outside) → IsCommand words command → (fault : Fault) → StandsInWork command before after fault → Stands words before after fault
 stands_in_call words (Score values) before after is fault stands = stands_as_score words (score_values values) before after is fault stands
 stands_in_call words (Merge values) before after is fault stands = stands_as_merge words (merge_values values) before after is fault stands

@@ -1,4 +1,4 @@
--- Where both files are told and no call of the host failed, the texts decide how a command ends.
+-- Where both files are known and no call of the host failed, the texts decide how a command ends.
 use Rattle.std.proofs.Common.{◌≡◌, inl, inr, ℕ, List, Option, None, Some, refl, sym, ap, subst, ◌∙◌}
 use Rattle.std.specs.Prelude.{IfSome, IsSome, IsSomeAnd, MatchOption}
 use Rattle.command_line.proofs.OneCommand.{one_command, one_of_all}
@@ -51,7 +51,7 @@ use Rattle.covered_cli.specs.declared.fault.Fault.TheVariants as fault
 use Rattle.covered_cli.specs.declared.status.Status.{Status}
 use Rattle.covered_cli.specs.declared.status.Status.TheVariants.{Done, Contradiction as contradiction_status, Dump as dump_status, Memory as memory_status, Source as source_status_of}
 
--- a told file has one text
+-- a known file has one text
 one_text_at : (files : Option Files) (name a b : List ℕ) → IsSomeAnd files (λ files. files name ≡ Some a) → IfSome files (λ files. files name ≡ Some b) → a ≡ b
 one_text_at None name a b told is = absurd told
 one_text_at (Some files) name a b told is = let e : Some a ≡ Some b = sym told ∙ is in cc
@@ -72,7 +72,7 @@ refused_call score before after text is OpenWrite file named refused = refused.c
 refused_call score before after text is Write file named refused = refused.cause
 refused_call score before after text is CloseWrite file named refused = refused.cause
 
--- the sources of a command that are told
+-- the sources of a command that are known
 module _ (score : ScoreValues) (before : Outside) (sources : List SourceText) (told : IsSome before.files) (gathered : HasSources (sources_in score) before sources) where
   -- the design that other words find is that of the sources, as it is seen
   one_found : (design : Design) → StandFor sources (sources_in score).defines score.top design → (others : List SourceText) (other : Design) → HasSources (sources_in score) before others → StandFor others (sources_in score).defines score.top other → design_view design ≡ design_view other
@@ -84,7 +84,7 @@ module _ (score : ScoreValues) (before : Outside) (sources : List SourceText) (t
   same_design : (design : Design) → StandFor sources (sources_in score).defines score.top design → (others : List SourceText) (other : Design) → HasDesign score before others other → design_view design ≡ design_view other
   same_design design stands others other has = one_found design stands others other has.gathered has.stands
 
-  -- sources that stand for no design have none
+  -- where the sources represent no design, there is no design
   no_some_design : ((design : Design) → StandFor sources (sources_in score).defines score.top design → ⊥) → HasSomeDesign score before → ⊥
   no_some_design none (others, other, has) =
       none other (subst (λ ss. StandFor ss (sources_in score).defines score.top other) (sym (one_sources (sources_in score) before sources told gathered others has.gathered)) has.stands)
@@ -117,7 +117,7 @@ module _ (score : ScoreValues) (before : Outside) (design : Design) (text : List
       let same = one_found score before texts.sources told texts.has_design.gathered design texts.has_design.stands has.sources has.design has.gathered has.stands in
       none_refused score (design_view design) (lawful_design texts.sources (sources_in score).defines score.top design texts.has_design.stands) texts.has_design.machines texts.has_design.are_machines name (subst (λ d. IsNoMachineOf d score.drawings name) (sym same) has.is)
 
-  -- the dump that a relation finds is the one that is told
+  -- the dump that a relation finds is the one that is known
   same_text : (other : List ℕ) → IfSome before.files (λ files. files score.dump ≡ Some other) → text ≡ other
   same_text other is = one_text_at before.files score.dump text other texts.dump_is is
 
@@ -301,7 +301,7 @@ module _ (words : List (List ℕ)) (before middle after : Outside) (first : Coun
       go (fault.Databases f) stands warned = absurd (score_or_databases words score before middle f is stands)
       go (fault.Selfrun f) stands warned = absurd (score_or_selfrun words score stands.0 is stands.1)
 
-  -- of a design whose points are not listed no other fault stands
+  -- of a design whose points are not listed there is no other fault
   pub points_end : IsCommandWith LacksPoints words before → WarnsLine (line_of f) before after → RefusesPoints words (status_of f) before after
   points_end (score, is, lacks) warned = go f stands warned
     where

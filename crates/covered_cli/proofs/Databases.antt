@@ -135,7 +135,7 @@ good_fault_for alloc (of_exclude values) before after good none f fault = good_p
 good_fault_for alloc (of_restore values) before after good none f fault = good_points alloc change.Restore values before after good none f fault
 good_fault_for alloc (of_selfrun values) before after good none f fault = absurd good
 
--- of good databases no fault but want of memory stands
+-- of good databases there is no fault except want of memory
 good_fault : (alloc : Global) (words : List (List ℕ)) (before after : Outside) → NoFaults before after → HasGoodDatabases words before → (f : CommandFault) → StandsInDatabases words before after f → f ≡ database.Memory
 good_fault alloc words before after none good f stands =
     let command = good_command words before good in
@@ -319,7 +319,7 @@ cause_later words before middle after first second (inr misses) = inr (misses_la
 pub files_cause : (words : List (List ℕ)) (before middle after : Outside) → CountsUp before middle → CountsUp middle after → (fault : Fault) → Stands words before middle fault → status_of fault ≡ status.Files → HasFilesCause words before after
 files_cause words before middle after first second fault stands is = cause_later words before middle after first second (files_fault_cause words before middle fault stands is)
 
--- ---- a fault stands also where more was counted since
+-- ---- a fault holds also where more was counted since
 
 module _ (before middle after : Outside) (first : CountsUp before middle) (second : CountsUp middle after) (files : KeepsFiles middle after) (input : KeepsInput middle after) (output : KeepsOutput middle after) where
   counted_later : IsCounted before.faults middle.faults → IsCounted before.faults after.faults

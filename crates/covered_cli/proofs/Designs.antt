@@ -1,4 +1,4 @@
--- What is true of a design that sources stand for: it is lawful, its dumps can be replayed, and it can be written.
+-- What is true of a design that sources represent: it is lawful, its dumps can be replayed, and it can be written.
 use Rattle.std.proofs.Common.{ℕ, ◌≤◌, List, length, sym, subst}
 use Rattle.std.proofs.lemmas.List.{length-map}
 use Rattle.std.specs.List.{All}

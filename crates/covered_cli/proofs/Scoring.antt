@@ -36,7 +36,7 @@ file_as_before name text None (Some after) same is = absurd same
 file_as_before name text (Some before) None same is = absurd same
 file_as_before name text (Some before) (Some after) same is = sym (same name) ∙ is
 
--- a fault of the sources stands
+-- a fault of the sources is a fault of the command
 pub design_stands : (score : ScoreValues) (before after : Outside) (fault : Fault) → IsDesignFault score before after fault → StandsIn score before after fault
 design_stands score before after (Usage usage) is = absurd is
 design_stands score before after (Source f) is = is
@@ -53,7 +53,7 @@ design_stands score before after (Selfrun f) is = absurd is
 abbrev pub has_listed : (score : ScoreValues) (before : Outside) (sources : List SourceText) (design : Design) (machines : StateMachines) (points : Points) → AreMachinesOf score (design_view design) machines → HasSources (sources_in score) before sources → StandFor sources (sources_in score).defines score.top design → AreAllPoints (design_view design) machines points → HasDesign score before sources design
 has_listed score before sources design machines points are gathered stands all = record { gathered = gathered; stands = stands; machines = machines; are_machines = are; few = (points, all.listed, all.few) }
 
--- a fault of points stands
+-- a fault of points is a fault of the command
 pub points_stand : (score : ScoreValues) (before after : Outside) (sources : List SourceText) (design : Design) (machines : StateMachines) → AreMachinesOf score (design_view design) machines → HasSources (sources_in score) before sources → StandFor sources (sources_in score).defines score.top design → (fault : Fault) → IsPointsFault design machines fault → StandsIn score before after fault
 points_stand score before after sources design machines are gathered stands (Usage usage) is = absurd is
 points_stand score before after sources design machines are gathered stands (Source f) is = absurd is
@@ -66,7 +66,7 @@ points_stand score before after sources design machines are gathered stands Memo
 points_stand score before after sources design machines are gathered stands (Databases f) is = absurd is
 points_stand score before after sources design machines are gathered stands (Selfrun f) is = absurd is
 
--- a fault of a machine that is drawn stands
+-- a fault of a machine that is drawn is a fault of the command
 pub drawing_stands : (score : ScoreValues) (before after : Outside) (sources : List SourceText) (design : Design) → HasSources (sources_in score) before sources → StandFor sources (sources_in score).defines score.top design → (fault : Fault) → IsDrawingFault (design_view design) score.drawings fault → StandsIn score before after fault
 drawing_stands score before after sources design gathered stands (Usage usage) is = absurd is
 drawing_stands score before after sources design gathered stands (Source f) is = absurd is
@@ -79,7 +79,7 @@ drawing_stands score before after sources design gathered stands Memory is = tt
 drawing_stands score before after sources design gathered stands (Databases f) is = absurd is
 drawing_stands score before after sources design gathered stands (Selfrun f) is = absurd is
 
--- a fault of a file stands
+-- a fault of a file is a fault of the command
 reading_stands : (score : ScoreValues) (before middle after : Outside) → HasSomeDesign score before → KeepsFiles before middle → CountsUp before middle → CountsUp middle after → (fault : Fault) → IsReadingFault score.dump middle after fault → StandsIn score before after fault
 reading_stands score before middle after has kept first second (Usage usage) is = absurd is
 reading_stands score before middle after has kept first second (Source f) is = absurd is
@@ -107,7 +107,7 @@ has_dump score sources design before middle P has kept is = record {
   holds = is.2;
 }
 
--- a fault of the scoring stands
+-- a fault of the scoring is a fault of the command
 pub scoring_stands : (score : ScoreValues) (sources : List SourceText) (design : Design) (before middle after : Outside) → HasDesign score before sources design → KeepsFiles before middle → CountsUp before middle → CountsUp middle after → (fault : Fault) → IsScoringFault score design middle after fault → StandsIn score before after fault
 scoring_stands score sources design before middle after has kept first second (Dump refusal) is = has_dump score sources design before middle (λ d text. IsDumpRefusal d score.instance text refusal) has kept is
 scoring_stands score sources design before middle after has kept first second (Contradiction found) is = has_dump score sources design before middle (λ d text. IsContradictedText (habit_in score) d score.instance text found) has kept is
@@ -184,7 +184,7 @@ IfErr-map (Err fault) step holds = step fault holds
 some_design : (score : ScoreValues) (before : Outside) → HasSomeScore score before → HasSomeDesign score before
 some_design score before has = (has.1.sources, has.1.design, has.1.has_design)
 
--- a fault of writing stands
+-- a fault of writing is a fault of the command
 pub writing_stands : (score : ScoreValues) (before later after : Outside) → HasSomeScore score before → KeepsFiles before later → CountsUp before later → CountsUp later after → (fault : Fault) → IsWritingFault score.output later after fault → StandsIn score before after fault
 writing_stands score before later after has kept first second (Usage usage) is = absurd is
 writing_stands score before later after has kept first second (Source f) is = absurd is
@@ -218,7 +218,7 @@ writing_is_late name before after Memory is early = early
 writing_is_late name before after (Databases f) is early = is
 writing_is_late name before after (Selfrun f) is early = is
 
--- files that are all as before are so but for one
+-- files that are all as before are so except for one
 pub others_kept : (name : List ℕ) (before after : Option Files) → Told SameFiles before after → Told (KeepsOthers name) before after
 others_kept name before after same = Told-map before after (λ old new kept other apart. kept other) same
 

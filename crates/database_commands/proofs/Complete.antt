@@ -22,7 +22,7 @@ use Rattle.database_commands.specs.Reporting.{IsReportFault}
 use Rattle.database_commands.specs.declared.fault.CommandFault.{CommandFault}
 use Rattle.database_commands.specs.declared.fault.CommandFault.TheVariants.{Files, Print, Memory, NoDatabase, DesignsDiffer, Point}
 
--- a told file has one text
+-- a known file has one text
 one_text_at : (files : Option HostFiles) (name a b : List ℕ) → IsSomeAnd files (λ files. files name ≡ Some a) → IfSome files (λ files. files name ≡ Some b) → a ≡ b
 one_text_at None name a b told is = absurd told
 one_text_at (Some files) name a b told is = let e : Some a ≡ Some b = sym told ∙ is in cc

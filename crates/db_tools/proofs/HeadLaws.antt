@@ -584,7 +584,7 @@ first_digits digits same = (bytes_eq-Decides digits (codes "1")).0 same
 pub other_digits : (digits : List ℕ) → bytes_eq digits (codes "1") ≡ false → digits ≢ codes "1"
 other_digits digits other same = let bad : false ≡ true = sym other ∙ (bytes_eq-Decides digits (codes "1")).1 same in cc
 
--- the line of a fault of the table fits behind the lines before it
+-- the line of a fault of the table fits after the lines before it
 pub line_fits : (inner : List ℕ) (fault : DbFault) (before : ℕ) → before + length inner + 2 < 2 ^ 32 → IsFault inner fault → IsLineWithin (λ line. before + line < 2 ^ 32) fault
 line_fits inner NoMemory before fits is = tt
 line_fits inner (At kind None) before fits is = tt

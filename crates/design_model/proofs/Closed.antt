@@ -113,7 +113,7 @@ module _ (d : Design) (lawful : IsLawfulDesign d) (h : Habit) (dump : BoundDump)
   unfolding Clear
   within_round b told = inside_round (execution d b v).visits (told v agrees)
 
-  -- the Assigns of signal s, of the first k processes, are told in some round
+  -- the Assigns of signal s, of the first k processes, read within what is known in some round
   drivers_round : (s : ℕ) → ((p : ℕ) → drives s (process_at d p) ≡ true → ReadsWithin d Clear (body_at d p)) → (k : ℕ) → (n : ℕ) × ((p : ℕ) → p < k → drives s (process_at d p) ≡ true → AllInside (Round n) (execution d (body_at d p) v).visits)
   drivers_round s told zero = (0, λ p below drives_it. absurd (omega (arith, below)))
   drivers_round s told (suc k) = go (cases_Bool (drives s (process_at d k))) (drivers_round s told k)

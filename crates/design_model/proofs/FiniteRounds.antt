@@ -397,7 +397,7 @@ decided_law d lawful dump t = decided d lawful dump t
 pub growing_law : (d : Design) → IsLawfulDesign d → GrowingRoundsLaw d
 growing_law d lawful dump t n = rounds_law (machine d) (told_at dump t) (decided d lawful dump t) n
 
--- in round 0 the told inputs are single
+-- in round 0 the reported inputs are single
 pub first_rounds_law : (d : Design) → FirstRoundsLaw d
 first_rounds_law d dump first t c =
     (λ one. subst (λ n. IsSingle (machine d) (told_at dump t) n c) (first t) one, λ told. told_single (machine d) (told_at dump t) (dump.round t) c told)

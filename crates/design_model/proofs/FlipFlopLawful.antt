@@ -33,7 +33,7 @@ assigns_q : (p x : ℕ) → body_assigns x (body_at flip_flop p) ≡ true → (p
 assigns_q zero x h = (refl, ⊎_elim (λ e. sym (eqb-true 2 x e)) (λ e. ⊎_elim (λ f. sym (eqb-true 2 x f)) (λ f. absurd (false≢true f)) (or_cases (2 == x) false e)) (or_cases (2 == x) _ h))
 assigns_q (suc p) x h = absurd (false≢true h)
 
--- equal numbers stand at one place
+-- equal numbers are at one place
 same_line : (x y : LineAt) → In x (lines_of (process_at flip_flop 0)) → In y (lines_of (process_at flip_flop 0)) → x.line ≡ y.line → x ≡ y
 same_line x y (inl a) (inl b) e = sym a ∙ b
 same_line x y (inl a) (inr (inl b)) e = absurd (omega (arith, ap (λ z. z.line) a, ap (λ z. z.line) b, e))

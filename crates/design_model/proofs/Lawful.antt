@@ -204,7 +204,7 @@ edge_one d (clocked i events s) e c h all =
 same_cells : (b c : Cell) → b.thing ≡ c.thing → b.place ≡ c.place → b ≡ c
 same_cells b c p q = λ i. record { thing = p i; place = q i }
 
--- the laws of a machine, but for its Assigns
+-- the laws of a machine, except those of its Assigns
 module _ (d : Design) (lawful : IsLawfulDesign d) where
   pub inputs_kept : (p : ℕ) (c : Cell) → (machine d).is_input c ≡ true → IsTarget (machine d) p c → ⊥
   inputs_kept p c input target = both_ways _ (lawful.no_input p c.thing (assigns_any d (body_at d p) c target)) (and_parts (signal_at d c.thing).input _ input).0

@@ -1,4 +1,4 @@
--- With more known, more is told, visited and surely open, and fewer points are open.
+-- With more known, more bodies read within what is known, more is visited and surely open, and fewer points are open.
 use Rattle.std.proofs.Common.{List, [], ap, ap₂, false, true, ℕ, inl, inr, ⊎_elim, ◌∙◌, ◌∷◌, ◌≡◌}
 use Rattle.std.proofs.lemmas.Bool.{false≢true}
 use Rattle.event_machine.specs.Cell.{Values}

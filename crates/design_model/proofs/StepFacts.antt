@@ -67,7 +67,7 @@ module _ (d : Design) (lawful : IsLawfulDesign d) (h : Habit) (laws : StepLaws (
       ⊎_elim (λ input. ltb-true _ _ (and_parts (signal_at d c.thing).input _ input).1)
       (λ target. any_gives (λ x y w. may_write d y c) _ (λ x y w e. place_from d y c (binds c.thing told.0) e) (body_at d target.0) (may_any d (body_at d target.0) c target.1)) told.1
 
-  -- the step has the values that the dump tells
+  -- the step has the values that the dump gives
   pub as_told : (s : StepTo (machine d) h (settled d r t) (settled d r (suc t))) → IsAsTold (machine d) (told_at dump (suc t)) s.start s.events
   as_told s c told =
       (ap (λ f. f c) s.starts ∙ old_at c told.0 (told_range c told) ∙ ap (λ y. dump.values y c) (sym back), ap (λ f. f c) s.ends ∙ new_at c told.0 (told_range c told))

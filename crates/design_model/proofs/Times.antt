@@ -24,7 +24,7 @@ module _ {V : Type 0} (m : Machine V) (h : Habit) where
   pub waiting : (t : ℕ) (s : State V) (x : Timed V) (xs : List (Timed V)) → t < x.time → state_at m t s (x ∷ xs) ≡ s
   waiting t s x xs lt = ap (λ b. if b then state_at m t (step_start (end_state m s x.events)) xs else s) (lt-leb x.time t lt)
 
-  -- before its first step a run stands at its start
+  -- before its first step a run is at its start
   pub still_there : (now t : ℕ) (s : State V) (xs : List (Timed V)) → AreSteps m h now s xs → t ≤ now → state_at m t s xs ≡ s
   still_there now t s [] steps le = refl
   still_there now t s (x ∷ xs) steps le = waiting t s x xs (omega (arith, le, steps.0))

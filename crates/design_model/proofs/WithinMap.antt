@@ -1,4 +1,4 @@
--- The same for whole bodies, and what it means for a body that is told by a map.
+-- The same for whole bodies, and what it means for a body that reads within a map.
 use Rattle.std.proofs.Common.{◌≡◌, ⊎_elim, ℕ, Bool, true, false, ◌||◌, List, [], ◌∷◌, ◌++◌, map, refl, sym, ap, ap₂, subst, ◌∙◌, if◌then◌else◌}
 use Rattle.std.proofs.lemmas.Bool.{and_parts, or_cases, false≢true, true≢false}
 use Rattle.std.specs.List.{list_any}
@@ -276,7 +276,7 @@ inside_outer d K u v au av (reads x true ∷ xs) a = (tt, inside_outer d K u v a
 inside_outer d K u v au av (reads x false ∷ xs) a = (au x a.0.0 a.0.1 ∙ sym (av x a.0.0 a.0.1), inside_outer d K u v au av xs a.1)
 inside_outer d K u v au av (writes_word m i ∷ xs) a = (tt, inside_outer d K u v au av xs a.1)
 
--- so one state with the map's values tells whether a body is told by the map
+-- so one state with the map's values shows whether a body reads within the map
 pub within_by : (d : Design) (K : PartialMap) (b : Stmt) (u : Values Bit) → Agrees d K u → AllInside K (execution d b u).visits → ReadsWithin d K b
 within_by d K b u au a v av = subst (AllInside K) (execution_same d u v b (inside_outer d K u v au av _ a)).visits a
 

@@ -27,7 +27,7 @@ use Rattle.shown_dumps.proofs.Values.{first_until}
 use Rattle.replay_core.specs.step_values.Dumped.{AreDumped}
 use Rattle.dump_replay.proofs.Taken.{steps_long}
 
--- a code without a value is told by the test
+-- the test shows which code has no value
 some_value : (values : List (Option Vector)) (code : ℕ) → is_none (value_of values code) ≡ false → IsSome (value_of values code)
 some_value values code e = go (value_of values code) e
   where

@@ -133,7 +133,7 @@ can_end_binds body replay habit design points vars instance text can = (
   subst (λ vs. HasInstance vs instance) (sym can.vars_are) can.followed.of.there,
 )
 
--- a fault that was found stands in the whole file
+-- a fault that was found is a fault of the whole file
 pub found_in_file : (name : List ℕ) (before after now : Outside) (habit : Habit) (design : Design) (instance text : List ℕ) (f : ScoreFault) → HasReadFile name before now text → ((rest : List ℕ) → Binds instance (text ++ rest)) → IsFoundFault habit design instance text f → IsScoreFault name before after habit design instance f
 found_in_file name before after now habit design instance text (fault.Dump f) file binds is =
     let whole = file_of name text before now file in
@@ -165,7 +165,7 @@ is_none : (n : ℕ) → (0 < n → ⊥) → n ≡ 0
 is_none zero none = refl
 is_none (suc n) none = absurd (none (omega arith))
 
--- a fault of the binding stands in the whole file
+-- a fault of the binding is a fault of the whole file
 pub bind_in_file : (name : List ℕ) (before after now : Outside) (habit : Habit) (design : Design) (instance piece : List ℕ) (opened : Opened) (f : _) → HasOpened name before now piece opened → IsBindFault design opened.vars instance f → IsScoreFault name before after habit design instance (fault.Bind f)
 bind_in_file name before after now habit design instance piece opened f o is = go (body_at_end opened.body) refl o.splits.stands
   where

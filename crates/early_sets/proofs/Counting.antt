@@ -29,7 +29,7 @@ at_place x y xs (suc k) l e = inr (k, omega arith, e)
 contains_cases : (x y : ℕ) (xs : List ℕ) → Contains (x ∷ xs) y → (x ≡ y) ⊎ Contains xs y
 contains_cases x y xs c = at_place x y xs c.0 c.1 c.2
 
--- each member is none of those after it
+-- no member is among those after it
 abbrev AreApart : List ℕ → Type 0
 AreApart [] = ⊤
 AreApart (x ∷ xs) = (Contains xs x → ⊥) × AreApart xs

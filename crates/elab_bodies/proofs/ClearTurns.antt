@@ -1,4 +1,4 @@
--- Scopes of the turns of loops, where nothing stands for something that has a fault.
+-- Scopes of the turns of loops, where no name means something that has a fault.
 use Rattle.std.proofs.Common.{◌≡◌, ℕ, Bool, true, false, List, refl, if◌then◌else◌, Option, Some}
 use Rattle.std.specs.Prelude.{bytes_eq}
 use Rattle.four_state.specs.Vector.{Vector}

@@ -1,4 +1,4 @@
--- Where fewer names stand for signals and memories, no more nodes are counted.
+-- Where fewer names mean signals and memories, no more nodes are counted.
 use Rattle.std.proofs.Common.{◌≤◌, ℕ, Bool, true, false, not, ◌&&◌, ◌||◌, if◌then◌else◌, List, [], ◌∷◌, Option, Some, arith}
 use Rattle.std.specs.List.{list_any}
 use Rattle.std.specs.Prelude.{bytes_eq}

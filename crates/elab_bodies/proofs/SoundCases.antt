@@ -38,7 +38,7 @@ case_known g e is sound all = arms_known g is (shape_answer (names g) e) (const.
 no_answer : (r : Result Shape ConstFault) (s : Shape) (f : ConstFault) → r ≡ Ok s → r ≡ Err f → ⊥
 no_answer r s f found err = absurd cc
 
--- so no fault is told
+-- so no fault is reported
 pub no_case_fault : (g : Scope) (e : Expr) (is : CaseItems) (r : Result Shape ConstFault) (f : ConstFault) → IsSound g e → AreSoundItems g is → r ≡ told (case_answer (names g) e is) → r ≡ Err f → ⊥
 no_case_fault g e is r f sound all answer err =
     let known = case_known g e is sound all in

@@ -36,7 +36,7 @@ module _ (g : Scope) (x : Named) where
   stands mode (Some NoConstant) is f c = absurd cc
   stands mode (Some Faulty) is f c = absurd cc
 
-  -- it stands for a signal
+  -- it means a signal
   pub sound_net : IsClear g → IsSoundTarget g here → is_signal_entry (look_up g x.name) ≡ true
   sound_net clear (mode, f) = stands mode (look_up g x.name) refl f (clear x.name)
 

@@ -9,7 +9,7 @@ known_bit : (b : Bool) → bit_in_masks b false ≡ bit_of b
 known_bit true = refl
 known_bit false = refl
 
--- the bits that one mask stands for are those of a number
+-- the bits that one mask represents are those of a number
 pub known_bits : (w n : ℕ) → bits_of_masks w n 0 ≡ low_bits w n
 unfolding bits_of_masks
 known_bits zero n = refl

@@ -43,7 +43,7 @@ word_index g (Some Faulty) x i is f = f
 pub any_of_both : {A : Type 0} (p : A → Bool) (xs ys : List A) → list_any p (xs ++ ys) ≡ (list_any p xs || list_any p ys)
 any_of_both p xs ys = list_any-append p xs ys
 
--- a choice that is none is the second
+-- a choice that gives no number is the second
 pub no_choice : (b : Bool) (n : ℕ) (r : Option ℕ) → r ≡ (if b then Some n else None) → r ≡ None → b ≡ false
 no_choice true n r is none = absurd cc
 no_choice false n r is none = refl

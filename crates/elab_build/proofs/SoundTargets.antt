@@ -1,4 +1,4 @@
--- The parts of a target without a fault, in a scope where no name stands for something that has one.
+-- The parts of a target without a fault, in a scope where no name means something that has a fault.
 use Rattle.std.proofs.Common.{◌≡◌, ◌≤◌, Result, Ok, Err, subst, ℕ, Bool, true, false, not, ◌||◌, ◌&&◌, List, [], ◌∷◌, ◌++◌, refl, sym, ap, ◌∙◌, if◌then◌else◌, Option, Some, None, arith}
 use Rattle.std.specs.List.{list_any, list_all}
 use Rattle.cov_host.specs.declared.place.Place.{Place}
@@ -30,7 +30,7 @@ use Rattle.elab_build.specs.SoundTargets.{EachSoundTarget}
 use Rattle.flat_design.proofs.NoConstFaults.{no_const_fault, constant_none, none_both, true_both, both_none, four_none, both_true, each, each_of_three, none_else, number_clean, bound_clean, width_clean}
 use Rattle.elab_build.proofs.SoundParts.{sound_bit, sound_word, sound_part, sound_slide}
 
--- what a list has behind a fault that does not hold
+-- what a list has after a fault that does not hold
 none_unless : (b : Bool) (f : Fault) (xs : List Fault) → none (if b then f ∷ [] else xs) ≡ true → none xs ≡ true
 none_unless true f xs e = absurd cc
 none_unless false f xs e = e
@@ -39,7 +39,7 @@ never : (b : Bool) (f : Fault) (xs : List Fault) → b ≡ true → none (if b t
 never true f xs e = refl
 never false f xs e = absurd cc
 
--- parts whose width is known have no fault where it is not told
+-- where sound parts are not too wide together, there is no fault of their width in any case
 joined_same : (a b : Bool) (w : ℕ) (p : Place) → a ≡ true → none (joined_faults a w p) ≡ true → none (joined_faults b w p) ≡ true
 joined_same true true w p e f = f
 joined_same true false w p e f = refl
@@ -53,7 +53,7 @@ or_none (Some f) b e = absurd cc
 pub clean_width : (g : Scope) (k : Place) (w : Expr) → none (width_faults g k w (faults g w)) ≡ true → names_faulty g w ≡ false → IsWidth (count_of (number_of (names g) w))
 clean_width g k w f n = width_within (count_of (number_of (names g) w)) k (or_none _ _ (width_clean g k w (faults g w) f n).1)
 
--- and its constant is told
+-- and its constant is the answer
 pub told_width : (g : Scope) (k : Place) (w : Expr) → none (width_faults g k w (faults g w)) ≡ true → names_faulty g w ≡ false → told (constant_answer (names g) w) ≡ Ok (constant g w)
 told_width g k w f n =
     let number = number_clean g w (faults g w) (width_clean g k w (faults g w) f n).0 n in
@@ -258,7 +258,7 @@ module _ (g : Scope) where
       let both = both_none (faults g e) (all_faults g es) f in
       rw (no_const_fault g e both.0 (clear_names clear e)) (all_shapes es clear both.1)
 
-  -- a target without a fault has none as an expression
+  -- a target without a fault has no fault as an expression
   mutual
     target_faultless : (mode : Mode) (e : Expr) → IsClear g → none (target_faults g mode e) ≡ true → none (faults g e) ≡ true
     target_faultless mode (concatenation p es) clear f =

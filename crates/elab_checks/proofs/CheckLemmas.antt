@@ -1,4 +1,4 @@
--- The faults of selects, numbers and lists of parts, as they are told in turn.
+-- The faults of selects, numbers and lists of parts, as they are reported in turn.
 use Rattle.std.proofs.Common.{◌≡◌, ◌∙◌, refl, sym, ap, ℕ, nat_lt, Bool, true, false, ◌&&◌, if◌then◌else◌, List, [], ◌++◌, Some, None, arith}
 use Rattle.std.proofs.lemmas.Bool.Decides.{nat_tests}
 use Rattle.cov_host.specs.declared.place.Place.{Place}
@@ -100,7 +100,7 @@ width_known g p e constant sound =
         let high : nat_lt 128 n ≡ false = h.1 in
         (grind (arith, nat_tests), grind (arith, nat_tests))
 
--- an index of a memory, and of what is none
+-- an index of a memory, and of what is not a memory
 pub word_is : (g : Scope) (of : Expr) (before : List Fault) (i : Expr) (fs : List Fault) (m : MemoryEntry) → is_memory_name g of ≡ true → look_up g (base_name of).name ≡ Some (Memory m) →
     bit_faults g of before i fs ≡ fs ++ index_faults g (Selected.bits_in m.words (base_name of)) i fs
 word_is g of before i fs m memory is =

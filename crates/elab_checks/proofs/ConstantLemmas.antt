@@ -1,4 +1,4 @@
--- The faults of expressions that must be constant, in the order in which they are told.
+-- The faults of expressions that must be constant, in the order in which they are reported.
 use Rattle.std.proofs.Common.{◌≡◌, refl, ap, Bool, true, false, ◌&&◌, if◌then◌else◌, List, [], ◌∷◌, ◌++◌, is_none, Option, Some, None}
 use Rattle.std.specs.List.{list_all, list_any}
 use Rattle.verilog_tree.specs.Tree.{Expr}
@@ -56,7 +56,7 @@ append_none : (xs : List Fault) → xs ++ [] ≡ xs
 append_none [] = refl
 append_none (x ∷ xs) = ap (λ ys. x ∷ ys) (append_none xs)
 
--- what is told where the test does not hold, and where it does
+-- what is reported where the test does not hold, and where it does
 pub stops : (t u : Tally) (s : Bool) (xs ys : List Fault) (test : Bool) → u ≡ after_faults t xs → s ≡ none xs → test ≡ false →
     (u ≡ after_faults t (xs ++ (if test then ys else []))) × (s ≡ none (xs ++ (if test then ys else [])))
 stops t u s xs ys test p q e = rw (e, append_none xs) (p, q)

@@ -1,4 +1,4 @@
--- The faults of expressions in the order in which they are told.
+-- The faults of expressions in the order in which they are reported.
 use Rattle.std.proofs.Common.{◌≡◌, ◌∙◌, refl, sym, ap, ℕ, Bool, true, false, ◌&&◌, ◌||◌, if◌then◌else◌, List, [], ◌∷◌, ◌++◌, flat_map, is_none, None, Result, Ok, Err, ◌<◌, ◌+◌, ◌≤◌, length, drop, drop-cons, get_or, add-one, arith}
 use Rattle.std.specs.List.{list_any}
 use Rattle.std.proofs.lemmas.List.{map-append}
@@ -118,7 +118,7 @@ index_is g (Selected.bits_in r x) i fs a b = rw (a, b, bit_inside r.high r.low (
 index_is g (Selected.no_bits x) i fs a b = rw (a, b) refl
 index_is g Selected.unknown i fs a b = rw (a, b) refl
 
--- a fault of constants that is none does not hold
+-- where there is no fault of constants, its test does not hold
 pub no_bad : (b : Bool) (p : Place) → const.fault_if b BadRange p ≡ None → b ≡ false
 no_bad false p e = refl
 no_bad true p e = absurd cc

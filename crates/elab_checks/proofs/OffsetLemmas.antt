@@ -1,4 +1,4 @@
--- The bits that a select without a fault names, by how far they stand above the lowest bit.
+-- The bits that a select without a fault names, by how far they are above the lowest bit.
 use Rattle.std.proofs.Common.{◌≡◌, ◌≤◌, ◌∙◌, refl, sym, ap, ℕ, zero, suc, ◌+◌, nat_le, nat_lt, Bool, true, false, not, ◌&&◌, [], ◌∷◌, ℤ, pos, negsuc, Option, Some, None, arith}
 use Rattle.std.specs.Prelude.{filter}
 use Rattle.std.specs.List.{range_with_len}
@@ -56,7 +56,7 @@ bound_at None e = absurd cc
 bound_at (Some (pos n)) e = refl
 bound_at (Some (negsuc n)) e = absurd cc
 
--- bits from a base that has no number are none
+-- there are no bits from a base that has no number
 pub slide_nowhere : (r : Range) (up : Bool) (w : ℕ) (o : Option ℤ) → 1 ≤ w → ((n : ℕ) → index_of o ≡ At n → ⊥) → is_inside r (slide_offset r up w o) w ≡ true → [] ≡ offsets_from (span r.high r.low) w (slide_offset r up w o)
 slide_nowhere r up w None some other h = refl
 slide_nowhere r up w (Some (pos n)) some other h = absurd (other n refl)

@@ -1,4 +1,4 @@
--- Indexes of a range, and how far bits stand above its lowest bit.
+-- Indexes of a range, and how far bits are above its lowest bit.
 use Rattle.std.proofs.Common.{◌≡◌, ◌≤◌, ◌<◌, refl, ℕ, ◌+◌, ◌-◌, nat_le, min, max, Bool, true, false, ◌&&◌, arith, ℤ, pos, negsuc, ◌-ℤ◌, ◌+ℤ◌, Option, Some, None}
 use Rattle.std.proofs.lemmas.Int.{ints}
 use Rattle.std.proofs.lemmas.Bool.Decides.{nat_tests}

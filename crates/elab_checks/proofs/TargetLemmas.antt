@@ -1,4 +1,4 @@
--- The widths of parts that stand side by side.
+-- The widths of parts that are side by side.
 use Rattle.std.proofs.Common.{◌≡◌, ℕ, ◌+◌, ◌<◌, Bool, true, false, Some, None, ◌++◌, List, length, get_or, drop, Err, refl, ap, ◌∙◌, sym}
 use Rattle.std.specs.Prelude.{◌&&◌, if◌then◌else◌}
 use Rattle.std.specs.Result.{is_ok}

@@ -19,7 +19,7 @@ use Rattle.elab_scope.specs.declared.tally.Written.{Written}
 use Rattle.elab_checks.specs.Writings.{EachTarget, HasSoundSignal, IsTarget, is_single}
 use Rattle.flat_design.proofs.NoConstFaults.{both_none, neither}
 
--- what a list has behind a fault that does not hold
+-- what a list has after a fault that does not hold
 none_unless : (b : Bool) (f : Fault) (xs : List Fault) → none (if b then f ∷ [] else xs) ≡ true → none xs ≡ true
 none_unless true f xs e = absurd cc
 none_unless false f xs e = e

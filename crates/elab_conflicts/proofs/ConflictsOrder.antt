@@ -47,7 +47,7 @@ second_equal Less s e = absurd (false≢true (sym (ap is_lt e)))
 second_equal Equal s e = e
 second_equal Greater s e = absurd (cc)
 
--- two names of which neither stands before the other are one
+-- two names of which neither comes before the other are one
 pub same_name : (x y : Named) → is_named_before x y ≡ false → is_named_before y x ≡ false → x ≡ y
 same_name x y f g =
     let level = neither_before (name_order x y) (name_order y x) (name_order-total.antisymm x y) (sym (is_named_before-is_lt x y) ∙ f) (sym (is_named_before-is_lt y x) ∙ g) in

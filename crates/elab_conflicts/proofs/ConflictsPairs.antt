@@ -73,7 +73,7 @@ module _ {X : Type 0} (lt : X → X → Bool) where
   first_in [] = None
   first_in (x ∷ xs) = Some (first x xs)
 
-  -- some name of the list does not stand behind z
+  -- some name of the list does not come after z
   abbrev pub reached : X → List X → Bool
   reached z = list_any (λ y. not (lt z y))
 
@@ -172,7 +172,7 @@ module _ {X : Type 0} (lt : X → X → Bool) where
           by others false e = others e
           by others true e = or_true _ _ _ e (λ h. o.chain z (later (name a) (name b)) (name a) (not_true _ h) (later-ge (name a) (name b))) others
 
-      -- an element whose name does not stand before the first name changes nothing
+      -- an element whose name does not come before the first name changes nothing
       pub stays : (x : X) (a : W) (bs : List W) → first_in (pairs name odds bs) ≡ Some x → lt (name a) x ≡ false → first_in (pairs name odds (a ∷ bs)) ≡ Some x
       stays x a bs e h = first_in-same (pairs name odds (a ∷ bs)) (x ∷ []) (λ z.
           reached-append z (row name odds a bs) (pairs name odds bs)
@@ -194,7 +194,7 @@ module _ {X : Type 0} (lt : X → X → Bool) where
               ap (λ y. not (lt z y) || reached z (row name odds a bs)) (later-at (name a) (name b) (h 0 b (omega arith)))
               ∙ ap (λ t. not (lt z (name a)) || t) rest ∙ or_and (not (lt z (name a))) (list_any (odds a) bs)
 
-      -- the names before it do not stand behind its own, and it is at odds with one of them
+      -- the names before it do not come after its own, and it is at odds with one of them
       pub hit : (a : W) (bs : List W) → first_in (pairs name odds bs) ≡ None → list_any (odds a) bs ≡ true → ((k : ℕ) (d : W) → k < length bs → lt (name a) (name (get_or bs k d)) ≡ false) → first_in (pairs name odds (a ∷ bs)) ≡ Some (name a)
       hit a bs e h up = first_in-same (pairs name odds (a ∷ bs)) (name a ∷ []) (λ z.
           ap (λ xs. reached z (row name odds a bs ++ xs)) (nothing-first (pairs name odds bs) e)

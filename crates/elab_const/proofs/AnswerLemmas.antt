@@ -39,7 +39,7 @@ pub sound_answer : {A : Type 0} (f : Option Fault) (a : A) → f ≡ None → un
 sound_answer None a e = refl
 sound_answer (Some f) a e = absurd cc
 
--- an answer of both, where each answer is told by an equation
+-- an answer of both, where each answer is given by an equation
 pub of_both : {A B : Type 0} (f h : Option Fault) (a : A) (b : B) (ra : Result A Fault) (rb : Result B Fault) (r : Result (A × B) Fault) →
     ra ≡ unless f a → rb ≡ unless h b → r ≡ both ra rb → r ≡ unless (earlier f h) (a, b)
 of_both f h a b ra rb r p q e = e ∙ rw (p, q) (both_answers f h a b)
@@ -75,7 +75,7 @@ pub is_fault : {A : Type 0} (f : Option Fault) (a : A) (h : Fault) → unless f 
 is_fault None a h e = absurd cc
 is_fault (Some f) a h e = cc
 
--- a fault that is none does not hold
+-- where there is no fault, its test does not hold
 no_fault : (b : Bool) (k : ConstKind) (p : Place) → fault_if b k p ≡ None → b ≡ false
 no_fault true k p e = absurd cc
 no_fault false k p e = refl
@@ -108,7 +108,7 @@ number_is g e p con here = rw (con, here) refl
 pub constant_is : (g : Names) (e : Expr) → is_constant g e ≡ true → unless (fault_of g e) (constant g e) ≡ unless (if is_constant g e then fault_of g e else fault_if true NotConstant (place_of e)) (constant g e)
 constant_is g e con = rw con refl
 
--- so many copies of parts side by side, in what stands around them
+-- so many copies of parts side by side, in what is around them
 pub repeat_is : (p : Place) (around : Option Shape) (h f : Option Fault) (n w : ℕ) (bs : List Bit) (k : Result ℕ Fault) (j : Result Joined Fault) (q : Result (ℕ × Joined) Fault) (r : Result Evaluated Fault) →
     k ≡ unless h n → on_ok j (λ x. Ok x.width) ≡ unless f w → IfOk j (λ x. x.width ≤ 128 → bits_before x.value ≡ bs) → q ≡ both k j →
     r ≡ on_ok q (λ x. unless (size_fault (x.0 * x.1.width) p) (bits_within (shape_as (x.0 * x.1.width) false) (copies x.0 (bits_before x.1.value)) around)) →

@@ -54,7 +54,7 @@ pub turns_fail : (g : Names) (h : t.Header) (x : List ℕ) (f : Fault) → varia
 turns_fail g h x f named over first =
     ap (turns_by g h) named ∙ ap (λ b. if b then on_ok (integer_answer g h.first) (turns_from g h.place x h.test h.step 1024) else Err (fault_at LoopNotConstant h.place)) over ∙ ap (λ r. on_ok r (turns_from g h.place x h.test h.step 1024)) first
 
--- the end behind as many turns as there may be
+-- the end after as many turns as there may be
 pub ends : (b : Result Bool Fault) (p : Place) → on_ok b (end_if p) ≡ Ok tt → on_ok b (more_if (Err (fault_at LoopTooLong p))) ≡ Ok []
 ends (Ok true) p e = absurd cc
 ends (Ok false) p e = refl
@@ -96,7 +96,7 @@ module _ (g : Names) (p : Place) (x : List ℕ) (test step : t.Expr) where
   none_left : (c : ℕ) → 1024 ≤ c → 1024 - c ≡ 0
   none_left c above = omega arith
 
-  -- behind the most turns: no more, and a fault
+  -- after the most turns: no more, and a fault
   pub all_turns : (vs : List Vector) (c : ℕ) (v : Vector) → 1024 ≤ c → on_ok (begins (with_turn x v g) p test) (end_if p) ≡ Ok tt → turns_before vs (turns_from g p x test step (1024 - c) v) ≡ Ok vs
   all_turns vs c v above is =
       ap (λ k. turns_before vs (turns_from g p x test step k v)) (none_left c above) ∙ ap (turns_before vs) (ends (begins (with_turn x v g) p test) p is) ∙ ap Ok (append-nil vs)

@@ -19,7 +19,7 @@ pub next_part_is : (parts : List Expr) (i : ℕ) (d e : Expr) → i < length par
     exprs_of (exprs_view (drop i parts)) ≡ an_expr (expr_view e) (exprs_of (exprs_view (drop (i + 1) parts)))
 next_part_is parts i d e within is = rw is (next_part parts i d within)
 
--- what is found behind a part without a fault, and behind one with it
+-- what is found after a part without a fault, and after one with a fault
 pub part_found : (g : Names) (o : Option Fault) (e : t.Expr) (es : Exprs) → fault_of g e ≡ None → first_fault g o (an_expr e es) ≡ first_fault g o es
 part_found g None e es none = rw none refl
 part_found g (Some f) e es none = rw none refl

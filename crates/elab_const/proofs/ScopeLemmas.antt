@@ -40,7 +40,7 @@ twice true x y z = refl
 twice false x y z = refl
 
 module _ {E : Type 0} where
-  -- the entries as names and what they stand for
+  -- the entries as names and what they mean
   abbrev pub bindings_in : List (Vec ℕ × E) → List (List ℕ × E)
   bindings_in es = map (λ bound. (bound.0.items, bound.1)) es
 
@@ -53,7 +53,7 @@ module _ {E : Type 0} where
   found_name name [] = refl
   found_name name (e ∷ es) = ap (cond (is_named name e.0) (Some e.1)) (found_name name es)
 
-  -- after an insertion the name stands for the new entry
+  -- after an insertion the name means the new entry
   pub inserted_name : (key : Vec ℕ) (new : E) (es : List (Vec ℕ × E)) (name : List ℕ) →
       bound_to (insert_entry same_key es key new) name ≡ (if bytes_eq name key.items then Some new else bound_to es name)
   inserted_name key new [] name = refl
@@ -73,7 +73,7 @@ module _ {E : Type 0} where
             ]
       ]
 
-  -- after a removal the name stands for nothing
+  -- after a removal the name means nothing
   pub removed_name : (x : List ℕ) (old new : List (Vec ℕ × E)) → lookup (is_named x) new ≡ None → KeepsOthers same_key (is_named x) old new → (name : List ℕ) →
       bound_to new name ≡ (if bytes_eq name x then None else bound_to old name)
   unfolding KeepsOthers

@@ -13,7 +13,7 @@ use Rattle.elab_const.specs.Meaning.{Shape, Meaning, Evaluated, at, within, bits
 use Rattle.elab_const.specs.Faults.{beside, shape_in, value_in}
 use Rattle.elab_const.proofs.ContextLemmas.{length-fit}
 
--- what stands around an operand gives it its context
+-- what is around an operand gives it its context
 pub operand_context : (o : Unary) (around : Option Shape) (s : Shape) → context_of (around_operand o around) s ≡ operand_shape o s (context_of around (unary_shape o s))
 operand_context o around s = go (is_wide_unary o)
   where
@@ -48,7 +48,7 @@ and_comm false false = refl
 same_shape : (w v : ℕ) (s t : Bool) → w ≡ v → s ≡ t → shape_as w s ≡ shape_as v t
 same_shape w v s t p q = rw (p, q) refl
 
--- the context of two shapes, whichever is told first
+-- the context of two shapes, whichever is given first
 pub first_beside : (around : Option Shape) (a b : Shape) → context_of (Some (context_of around a)) b ≡ context_of around (common_shape a b)
 first_beside None a b = refl
 first_beside (Some c) a b = same_shape _ _ _ _ (omega arith) (and_assoc c.signed a.signed b.signed)

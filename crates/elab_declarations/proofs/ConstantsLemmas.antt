@@ -1,4 +1,4 @@
--- The parameters of a module, found one behind the other.
+-- The parameters of a module, found one after the other.
 use Rattle.std.proofs.Common.{◌≡◌, ℕ, ◌+◌, ◌<◌, Bool, true, false, cond, List, [], ◌∷◌, ◌++◌, map, length, drop, drop-cons, get_or, add-one, append_assoc, Option, Some, None, Result, Ok, Err, refl, sym, ap, ◌∙◌, inl, inr}
 use Rattle.std.specs.Prelude.{bytes_eq, if◌then◌else◌, is_none, is_some, OnOk}
 use Rattle.std.proofs.lemmas.Bool.{cases_Bool}
@@ -24,11 +24,11 @@ param_if : (b : Bool) (v : Vector) → is_param_entry (Some (if b then Constant 
 param_if true v = refl
 param_if false v = refl
 
--- a parameter stands for a constant, or its declaration has a fault
+-- a parameter is a constant, or its declaration has a fault
 pub given_is_param : (g : Scope) (given : Option Vector) (p : Param) → is_param_entry (Some (entry_given g given p)) ≡ true
 given_is_param g given p = param_if _ _
 
--- what a parameter stands for is within all bounds
+-- what a parameter means is within all bounds
 pub param_is_entry : (e : Entry) → is_param_entry (Some e) ≡ true → IsEntry e
 param_is_entry (Constant v) h = tt
 param_is_entry Faulty h = tt
@@ -60,7 +60,7 @@ or_none : (o r : Option Entry) → entry_or (entry_or o None) r ≡ entry_or o r
 or_none None r = refl
 or_none (Some e) r = refl
 
--- a new name at the end stands for its entry
+-- a new name at the end means its entry
 pub bound_more : (bs : Bindings) (x : List ℕ) (e : Entry) (g : Scope) → binding_of bs x ≡ None → with_bindings (bs ++ (x, e) ∷ []) g ≡ with_entry x e (with_bindings bs g)
 bound_more bs x e g absent = fun_ext (λ y. ap (λ o. entry_or o (g y)) (binding_append bs x e y) ∙ at y)
   where
@@ -119,7 +119,7 @@ pub given_here : {B : Type 0} (v : B → Override) (os : List B) (i : ℕ) (o : 
 given_here v os i o x within is same = rw (drop-cons os i o within, ← is) (rw same refl)
 
 module _ (m : Module) (bs : Bindings) (g : Scope) (p : Param) (b : Bool) where
-  -- the scope tells whether the name of the parameter was found before
+  -- the scope shows whether the name of the parameter was found before
   seen_is : AreSeen m bs g → b ≡ is_param_entry (g p.name.name) → is_some (binding_of bs p.name.name) ≡ b
   seen_is seen is = sym (param_found m bs p.name.name seen.1) ∙ ap (λ f. is_param_entry (f p.name.name)) (sym seen.0) ∙ sym is
 
@@ -133,7 +133,7 @@ module _ (m : Module) (bs : Bindings) (g : Scope) (p : Param) (b : Bool) where
 pub with_param-same : (others : Scope) (os : List Override) (bs : Bindings) (p : Param) → is_none (binding_of bs p.name.name) ≡ false → bs ≡ with_param others os bs p
 with_param-same others os bs p there = rw there refl
 
--- a new one stands behind the others
+-- a new one comes after the others
 pub with_param-new : (others : Scope) (os : List Override) (bs : Bindings) (p : Param) (g : Scope) (e : Entry) → g ≡ with_bindings bs others → e ≡ entry_given g (given_value os p.name.name) p → binding_of bs p.name.name ≡ None →
     bs ++ (p.name.name, e) ∷ [] ≡ with_param others os bs p
 with_param-new others os bs p g e seen is absent =

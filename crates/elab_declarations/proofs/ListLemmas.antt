@@ -11,7 +11,7 @@ pub pushed_more : {A B C : Type 0} (f : A → C) (h : B → C) (done : List A) (
 pushed_more f h [] xs i a x within is same = rw (drop-cons xs i x within, ← is, add-one i) (ap (λ c. c ∷ map h (drop (suc i) xs)) same)
 pushed_more f h (d ∷ done) xs i a x within is same = ap (λ cs. f d ∷ cs) (pushed_more f h done xs i a x within is same)
 
--- the same over what the rest stands for
+-- the same over what the rest represents
 pub viewed_more : {A B C D : Type 0} (f : A → C) (v : B → D) (h : D → C) (done : List A) (xs : List B) (i : ℕ) (a : A) (x : B) → i < length xs → x ≡ get_or xs i x → f a ≡ h (v x) →
     map f (done ++ a ∷ []) ++ map h (map v (drop (i + 1) xs)) ≡ map f done ++ map h (map v (drop i xs))
 viewed_more f v h [] xs i a x within is same = rw (drop-cons xs i x within, ← is, add-one i) (ap (λ c. c ∷ map h (map v (drop (suc i) xs))) same)

@@ -1,4 +1,4 @@
--- Names that stand for what is no constant.
+-- Names that mean what is no constant.
 use Rattle.std.proofs.Common.{◌≡◌, ℕ, suc, ◌+◌, ◌<◌, Bool, true, false, ◌||◌, List, [], ◌∷◌, ◌++◌, map, length, drop, drop-cons, get_or, add-one, Option, Some, refl, sym, ap, ◌∙◌}
 use Rattle.std.specs.Prelude.{bytes_eq, flat_map, if◌then◌else◌}
 use Rattle.verilog_tree.specs.declared.item.Named.{Named}
@@ -24,7 +24,7 @@ others_next y ys g = fun_ext (λ x. ap (λ b. if is_among ys x then Some NoConst
 pub others_more : (xs : List Named) (i : ℕ) (x : Named) (g : Scope) → i < length xs → x ≡ get_or xs i x → with_others (drop (i + 1) xs) (with_entry x.name NoConstant g) ≡ with_others (drop i xs) g
 others_more xs i x g within is = rw (drop-cons xs i x within, ← is, add-one i) (others_next x (drop (suc i) xs) g)
 
--- the same over what the rest stands for
+-- the same over what the rest represents
 pub others_viewed : {B D : Type 0} (v : B → D) (h : D → Named) (xs : List B) (i : ℕ) (x : B) (g : Scope) → i < length xs → x ≡ get_or xs i x →
     with_others (map h (map v (drop (i + 1) xs))) (with_entry (h (v x)).name NoConstant g) ≡ with_others (map h (map v (drop i xs))) g
 others_viewed v h xs i x g within is = rw (drop-cons xs i x within, ← is, add-one i) (others_next (h (v x)) (map h (map v (drop (suc i) xs))) g)

@@ -37,7 +37,7 @@ or_false false = refl
 by_name : (x : List ℕ) (e : Bor (List ℕ) × Declaration) → (e.1.name.now.name ≡ e.0.now) → bytes_eq e.1.name.now.name x ≡ bytes_eq x e.0.now
 by_name x e named = ap (λ n. bytes_eq n x) named ∙ bytes_eq-sym e.0.now x
 
--- a name stands in the table once
+-- a name is in the table once
 pub any_named : (P : spec.Declaration → Bool) (x : List ℕ) (es : Table) → AreByName es → list_any (λ c. bytes_eq c.name.name x && P c) (declarations_in es) ≡ holds_of P (found x es)
 any_named P x [] h = refl
 any_named P x (e ∷ es) h =

@@ -29,7 +29,7 @@ pub clean_vector : (g : Scope) (r : Option RangeExpr) → is_sound_vector g r �
 clean_vector g None h = refl
 clean_vector g (Some r) h = (both_true (none (vector_faults g (Some r))) _ h).0
 
--- what a sound parameter stands for
+-- what a sound parameter means
 pub sound_entry : (g : Scope) (given : Option Vector) (p : Param) → is_sound_vector g p.range ≡ true → none (constant_faults g p.value (faults g p.value)) ≡ true → names_faulty g p.value ≡ false →
     entry_given g given p ≡ Constant (typed_value g p (unwrap_or given (constant g p.value)))
 sound_entry g given p a b k =
@@ -41,7 +41,7 @@ given_or : (o : Option Override) (v : Vector) → unwrap_or (option_map (λ o. o
 given_or None v = refl
 given_or (Some o) v = refl
 
--- what a parameter stands for, with these overrides
+-- what a parameter means, with these overrides
 pub entry_of_overrides : (g : Scope) (os : List Override) (p : Param) → entry_given g (option_map (λ o. o.value) (std.find (λ o. bytes_eq o.name p.name.name) os)) p ≡ param_entry g os p
 entry_of_overrides g os p =
     ap (λ v. if none (param_faults g p) && is_sound_vector g p.range && not (names_faulty g p.value) then Constant (typed_value g p v) else Faulty) (given_or (std.find (λ o. bytes_eq o.name p.name.name) os) (constant g p.value))

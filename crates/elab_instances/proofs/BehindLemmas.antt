@@ -1,4 +1,4 @@
--- Names that are bound one behind the other; of equal names the first counts.
+-- Names that are bound one after the other; of equal names the first counts.
 use Rattle.std.proofs.Common.{◌≡◌, ℕ, suc, ◌+◌, ◌<◌, Bool, true, false, cond, List, [], ◌∷◌, ◌++◌, map, length, drop, drop-cons, get_or, add-one, Option, Some, None, Result, Ok, Err, refl, sym, ap, ◌∙◌, inl, inr}
 use Rattle.std.specs.Prelude.{bytes_eq, filter, if◌then◌else◌, is_some, OnOk}
 use Rattle.std.specs.Option.{option_or}

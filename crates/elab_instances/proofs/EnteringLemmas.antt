@@ -1,4 +1,4 @@
--- The scope of an instance, name by name, and the numbers behind its signals and memories.
+-- The scope of an instance, name by name, and the numbers after its signals and memories.
 use Rattle.std.proofs.Common.{◌≡◌, ℕ, ◌+◌, ◌<◌, Bool, true, false, cond, List, [], ◌∷◌, ◌++◌, length, drop, drop-cons, get_or, add-one, add-zero, Option, Some, None, Result, Ok, Err, refl, sym, ap, subst, ◌∙◌, arith}
 use Rattle.std.specs.Prelude.{filter, is_none, if◌then◌else◌, All, IfOk}
 use Rattle.std.specs.Option.{option_or}
@@ -40,7 +40,7 @@ or_nothing (Some e) = refl
 pub scope_bound : (cs es : Bindings) → or_bound (or_bound no_names cs) es ≡ with_bindings cs (with_bindings es no_names)
 scope_bound cs es = fun_ext (λ x. or_entry (binding_of cs x) (binding_of es x) ∙ ap (entry_or (binding_of cs x)) (or_nothing (binding_of es x)))
 
--- what the declared names stand for, by their roles
+-- what the declared names mean, by their roles
 pub entries_by_role : (i : Instantiation) (n : Numbers) (ds : List Declaration) → role_entries (linked_of i) n ds ≡ entries i.aliases i.of_module n.signal n.memory ds
 entries_by_role i n [] = refl
 entries_by_role i n (d ∷ ds) =
@@ -57,7 +57,7 @@ counted_one p x xs k = by (p x)
 same_numbers : (a b c d : ℕ) → a ≡ b → c ≡ d → ◌≡◌ {A = Numbers} (record { signal = a; memory = c }) (record { signal = b; memory = d })
 same_numbers a b c d p q t = record { signal = p t; memory = q t }
 
--- the numbers behind declared names, by their counts
+-- the numbers after declared names, by their counts
 pub numbers_by_count : (i : Instantiation) (n : Numbers) (ds : List Declaration) →
     numbers_past (linked_of i) n ds ≡ record { signal = n.signal + length (filter (is_own i.aliases i.of_module) ds); memory = n.memory + length (filter is_memory ds) }
 numbers_by_count i n [] = same_numbers _ _ _ _ (sym (add-zero n.signal)) (sym (add-zero n.memory))
@@ -75,7 +75,7 @@ pub few_past : (l : Linked) (n : Numbers) (ds : List Declaration) → AreFew (nu
 few_past l n [] h = h
 few_past l n (d ∷ ds) h = few_behind (role_of l d) n (few_past l (numbers_behind (role_of l d) n) ds h)
 
--- what parameters stand for is within all bounds
+-- what parameters mean is within all bounds
 param_within : (b : Bool) (v : Vector) → IsEntry (if b then a_constant v else a_faulty_one)
 param_within true v = tt
 param_within false v = tt

@@ -33,7 +33,7 @@ use Rattle.elab_instances.proofs.RoleLemmas.{met_by_role}
 abbrev AreWithin : Counts → Numbers → Type 0
 AreWithin c n = (n.signal ≤ c.signals) × (c.signals ≤ 65536) × (n.memory ≤ c.words) × (c.words ≤ 262144)
 
--- behind a limit that is passed any numbers will do
+-- after a limit that is passed any numbers will do
 ended_counted : (t : Tally) (n : Numbers) → t.ended ≡ true → AreCounted t n
 ended_counted t n ended open' = absurd (false≢true (sym open' ∙ ended))
 
@@ -136,7 +136,7 @@ all_met_by_role i ds = ap (λ f. flat_map f ds) (fun_ext (met_by_role i))
 abbrev opening_front : Instantiation → List Met
 opening_front i = met_instance i.item ∷ met_text i.item (module_size i.of_module) ∷ met_faults (path_faults i.item i.path ++ declaration_faults i.overrides i.of_module)
 
--- the numbers behind those of an instance are counted once it is opened
+-- the numbers after those of an instance are counted once it is opened
 pub opening_counted : (i : Instantiation) (t : Tally) (n : Numbers) → AreCounted t n → AreCounted (after_all t (opening_met i)) (numbers_after i n)
 opening_counted i t n h =
     let ds : List Declaration = declared i.overrides i.of_module in

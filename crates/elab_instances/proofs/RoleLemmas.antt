@@ -72,7 +72,7 @@ entry_sort as' m s k d some_instance = refl
 entry_sort as' m s k d faulty = refl
 entry_sort as' m s k d faulty_memory = refl
 
--- what a declared name stands for
+-- what a declared name means
 pub entry_by_role : (i : Instantiation) (s k : ℕ) (d : Declaration) → role_entry (role_of (linked_of i) d) s k d ≡ declared_entry i.aliases i.of_module s k d
 entry_by_role i s k d = entry_sort i.aliases i.of_module s k d d.sort
 

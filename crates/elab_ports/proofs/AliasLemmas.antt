@@ -29,6 +29,6 @@ module _ (js : List CodePort) (ks : List CodeJoined) where
       aliases_from n ≡ alias_as j.port.name.now.name (joined_view k) ++ aliases_from (n + 1)
   aliases_more n j k within within' is is' = rw (drop-cons js n j within, drop-cons ks n k within', add-one n, ← is, ← is') refl
 
-  -- behind the last port there are none
+  -- after the last port there are no aliases
   pub aliases_over : (n : ℕ) → length js ≤ n → aliases_from n ≡ []
   aliases_over n over = ap (λ xs. aliases_of (ports_view xs) (map joined_view (drop n ks))) (drop_all n js over)

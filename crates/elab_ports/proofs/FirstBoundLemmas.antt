@@ -26,7 +26,7 @@ present : {V : Type 0} (o p : Option V) → is_none o ≡ false → o ≡ option
 present None p e = cc
 present (Some v) p e = refl
 
--- what comes behind nothing
+-- what has nothing after it
 pub or_nothing : {V : Type 0} (f : List ℕ → Option V) → f ≡ or_bound f (λ x. None)
 or_nothing f = fun_ext (λ x. sym (or_none (f x)))
 

@@ -22,7 +22,7 @@ unless_none by_assignment = refl
 unless_none not_joined = refl
 
 module _ (g : Scope) (label : Named) (d : Declaration) (p : Place) (x : List ℕ) where
-  -- the faults of a joined name are told, also where it is joined to something, since it then has none
+  -- the faults of a joined name are reported, also where it is joined to something, since it then has no fault
   abbrev IsTold : Type 0
   IsTold = unless_joined (joined_name d (g x)) (joined_faults g label d (identifier p x)) ≡ joined_faults g label d (identifier p x)
 
@@ -49,7 +49,7 @@ pub told_anyway : (g : Scope) (label : Named) (d : Declaration) (e : Expr) → u
 told_anyway g label d (identifier p x) = told_name g label d p x (g x) (is_input d) refl refl
 told_anyway g label d e = assigned (joined_faults g label d e) (not (names_faulty g e))
 
--- a plain name is joined by what it stands for
+-- a plain name is joined by what it means
 pub joining_name : (g : Scope) (label : Named) (d : Declaration) (e : Expr) → is_identifier e ≡ true → joining g d label e ≡ joined_name d (look_up g (base_name e).name)
 joining_name g label d (identifier p x) plain = refl
 joining_name g label d e plain = absurd cc
@@ -59,7 +59,7 @@ pub joining_other : (g : Scope) (label : Named) (d : Declaration) (e : Expr) →
 joining_other g label d (identifier p x) other = absurd cc
 joining_other g label d e other = refl
 
--- the faults of an output and then, where there are none, those of a target
+-- the faults of an output and then, where it has no fault, those of a target
 pub then_target : (outs targets : List Fault) (t u v : Tally) → none outs ≡ true → u ≡ after_faults t outs → v ≡ after_faults u targets → v ≡ after_faults t (if none outs then targets else outs)
 then_target [] targets t u v sound first second = second ∙ ap (λ w. after_faults w targets) first
 then_target (o ∷ outs) targets t u v sound first second = absurd cc

@@ -43,7 +43,7 @@ module _ (g : Scope) (label : Named) (m : Module) (cs : List Given) (xs : List N
   pub free_connections : found ≡ connections label (free_names m) cs
   free_connections = made ∙ ap (λ xs. connections label xs cs) names
 
-  -- the faults of the values behind those of the names
+  -- the faults of the values after those of the names
   pub overrides_met : (t u v : Tally) → u ≡ after_faults t (given_faults label xs cs) → v ≡ after_faults u (flat_map (λ c. override_value_faults g c.value) found) → v ≡ after_faults t (override_faults g label m cs)
   overrides_met t u v first second =
       met_then t u v (given_faults label (free_names m) cs) (flat_map (λ c. override_value_faults g c.value) (connections label (free_names m) cs)) (first ∙ ap (λ xs. after_faults t (given_faults label xs cs)) names) (second ∙ ap (λ cs. after_faults u (flat_map (λ c. override_value_faults g c.value) cs)) free_connections)

@@ -1,4 +1,4 @@
--- What stands for the variable of a loop, outside its turns and in one.
+-- What the variable of a loop means, outside its turns and in one.
 use Rattle.std.proofs.Common.{◌≡◌, ℕ, ◌<◌, Bool, true, false, List, [], ◌∷◌, Option, Some, None, length, refl, sym, ap, ◌∙◌, inl, inr, arith}
 use Rattle.std.specs.Prelude.{◌&&◌, bytes_eq, if◌then◌else◌, not}
 use Rattle.std.proofs.lemmas.Bool.{cases_Bool}
@@ -60,7 +60,7 @@ turn_variable g h i within =
       | inr fails ↦ let none_left : i < 0 = rw (no_turns g h fails) at within in absurd (omega arith)
     ]
 
--- what tells a turn and a loop variable not apart says the same of each name in a turn
+-- what does not distinguish a turn and a loop variable says the same of each name in a turn
 pub same_in_turn : {A : Type 0} (F : Option Entry → A) (g : Scope) (x : List ℕ) (v : Vector) → F (Some (a_turn v)) ≡ F (Some a_loop_variable) → look_up g x ≡ Some a_loop_variable →
     (y : List ℕ) → F (look_up (with_turn x v g) y) ≡ F (look_up g y)
 same_in_turn F g x v same is y =

@@ -1,4 +1,4 @@
--- The parts of an expression that read, in order, and that they have no fault where it has none.
+-- The parts of an expression that read, in order, and that they have no fault where the expression has no fault.
 use Rattle.std.proofs.Common.{◌≡◌, refl, sym, ap, ◌∙◌, Bool, true, false, if◌then◌else◌, List, [], ◌∷◌, ◌++◌, flat_map, append-nil, Option, Some, None}
 use Rattle.std.specs.List.{list_any}
 use Rattle.std.proofs.lemmas.Grind.{flat_map-append}

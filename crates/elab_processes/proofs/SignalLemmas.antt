@@ -23,7 +23,7 @@ use Rattle.elab_processes.proofs.LoopVariables.{same_in_turn}
 has_append : (xs ys : List ℕ) (n : ℕ) → has (xs ++ ys) n ≡ (has xs n || has ys n)
 has_append xs ys n = list_any-append (λ k. k == n) xs ys
 
--- the same numbers behind others
+-- the same numbers after others
 has_behind : (xs ys zs : List ℕ) → has ys ≡ has zs → has (xs ++ ys) ≡ has (xs ++ zs)
 has_behind xs ys zs e = fun_ext (λ n. has_append xs ys n ∙ ap (λ f. has xs n || f n) e ∙ sym (has_append xs zs n))
 
@@ -75,7 +75,7 @@ listed_in_turn g h v xs is =
 lacking-append : (g : Scope) (known : List ℕ) (xs ys : List Named) → lacking g known (xs ++ ys) ≡ lacking g known xs ++ lacking g known ys
 lacking-append g known xs ys = flat_map-append (λ x. fault_if (lacks (look_up g x.name) known) (fault_at Incomplete x)) xs ys
 
--- names that are told, and then others
+-- names that are reported, and then others
 pub lacking_then : (g : Scope) (known : List ℕ) (t u v : Tally) (xs ys : List Named) → u ≡ after_faults t (lacking g known xs) → v ≡ after_faults u (lacking g known ys) → v ≡ after_faults t (lacking g known (xs ++ ys))
 lacking_then g known t u v xs ys one two = met_then t u v (lacking g known xs) (lacking g known ys) one two ∙ ap (after_faults t) (sym (lacking-append g known xs ys))
 

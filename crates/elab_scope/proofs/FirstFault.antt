@@ -1,4 +1,4 @@
--- The fault that is told of modules is the first one that is found.
+-- The fault that is reported of modules is the first one that is found.
 use Rattle.std.proofs.Common.{◌≡◌, ℕ, refl, inl, inr, Bool, true, false, ◌||◌, None, List, [], ◌∷◌, ◌++◌, if◌then◌else◌, sym, ap, ◌∙◌}
 use Rattle.std.specs.List.{fold, list_any}
 use Rattle.std.proofs.lemmas.Bool.{false≢true, cases_Bool}
@@ -33,7 +33,7 @@ after_faults_open t (f ∷ fs) e none =
     ∙ after_faults_open (with_fault f t) fs parts.0 parts.1
     ∙ (λ i. record { first = fold sooner (sooner t.first f) fs; counts = t.counts; ended = (parts.0 ∙ sym e) i; writings = t.writings })
 
--- so they are the last to be told
+-- so they are the last to be reported
 pub first_after_faults : (t : Tally) (rest : List Fault) → NoLimit rest → (after_faults t rest).first ≡ first_at_end t rest
 first_after_faults t rest none =
     elim (cases_Bool t.ended) [
@@ -41,7 +41,7 @@ first_after_faults t rest none =
       | inr other ↦ ap (λ u. u.first) (after_faults_open t rest other none) ∙ sym (ap (λ b. if b then t.first else fold sooner t.first rest) other)
     ]
 
--- what is told of faults, of what is met behind them, and of what is written
+-- what is reported of faults, of what is met after them, and of what is written
 module _ (fs : List Fault) (ms : List Met) (rest : List Writing → List Fault) where
   abbrev start : Tally
   start = after_faults nothing_found fs
@@ -85,6 +85,6 @@ driver_faults_none ws = at_first_none _
 abbrev pub found : List Module → List ℕ → Tally
 found ms top = after_all (after_faults nothing_found (two_modules [] ms)) (elaborated ms top).met
 
--- the fault that is told is the first one found, with those of drivers behind all others
+-- the fault that is reported is the first one found, with those of drivers after all others
 pub first_found : (ms : List Module) (top : List ℕ) → first_fault (faults_of ms top) ≡ (after_faults (found ms top) (driver_faults (found ms top).writings)).first
 first_found ms top = first_met (two_modules [] ms) (elaborated ms top).met driver_faults (two_modules_none [] ms) driver_faults_none

@@ -11,7 +11,7 @@ use Rattle.flat_design.specs.Processes.{writing_met, writings}
 use Rattle.flat_design.specs.declared.counts.Counts.{Counts}
 use Rattle.elab_scope.specs.Tally.{Tally, tells, sooner, with_fault, with_counts, with_met, after, after_all, after_faults}
 
--- the fault that is told, by the test
+-- the fault that is reported, by the test
 pub sooner_if : (o : Option Fault) (f : Fault) (b : Bool) → b ≡ tells o f → (if b then Some f else o) ≡ sooner o f
 sooner_if None f b e = rw e refl
 sooner_if (Some g) f true e = rw (← e) refl
@@ -29,7 +29,7 @@ after_faults-append t fs gs = ap (after_all t) (map-append met_fault fs gs) ∙ 
 pub after_all-faults : (t : Tally) (fs : List Fault) (ms : List Met) → after_all t (met_faults fs ++ ms) ≡ after_all (after_faults t fs) ms
 after_all-faults t fs ms = after_all-append t (met_faults fs) ms
 
--- behind a limit that is passed nothing counts
+-- after a limit that is passed nothing counts
 pub after_ended : (t : Tally) (m : Met) → t.ended ≡ true → after t m ≡ t
 after_ended t m e = ap (λ b. if b then t else with_met m t) e
 
@@ -50,7 +50,7 @@ stays_ended t ms e = ap (λ u. u.ended) (after_all_ended t ms e) ∙ e
 pub was_open : (t : Tally) (ms : List Met) → (after_all t ms).ended ≡ false → t.ended ≡ false
 was_open t ms e = elim (cases_Bool t.ended) [ inl ended ↦ absurd (false≢true (sym e ∙ stays_ended t ms ended)) | inr open' ↦ open' ]
 
--- the first fault of a list is the one that is told of each one and those before it
+-- the first fault of a list is the one that is reported of each one and those before it
 some_first : (f : Fault) (fs : List Fault) → fold sooner (Some f) fs ≡ Some (first_of_faults f fs)
 some_first f [] = refl
 some_first f (g ∷ gs) = some_first (if goes_before g f then g else f) gs
@@ -70,7 +70,7 @@ ended_first : (t : Tally) (rest : List Fault) (ms : List Met) → t.ended ≡ tr
 ended_first t rest ms e = sym (ap (λ u. first_at_end u rest) (after_all_ended t ms e) ∙ ap (λ b. if b then t.first else fold sooner t.first rest) e)
 
 module _ (rest : List Fault) where
-  -- what is told of this is what the tally has at the end
+  -- what is reported of this is what the tally has at the end
   abbrev IsTold : List Met → Type 0
   IsTold ms = (t : Tally) → t.ended ≡ false → fold sooner t.first (told t.counts rest ms) ≡ first_at_end (after_all t ms) rest
 
@@ -100,7 +100,7 @@ module _ (rest : List Fault) where
   all_told [] t e = sym (ap (λ b. if b then t.first else fold sooner t.first rest) e)
   all_told (m ∷ ms) t e = told_met m ms (all_told ms) t e ∙ ap (λ u. first_at_end (after_all u ms) rest) (sym (after_open t m e))
 
--- which fault is told of those before a tally, of what is met, and of the rest
+-- which fault is reported of those before a tally, of what is met, and of the rest
 pub first_told : (fs : List Fault) (t : Tally) (rest : List Fault) (ms : List Met) → t.first ≡ first_fault fs → t.ended ≡ false →
     first_fault (fs ++ told t.counts rest ms) ≡ first_at_end (after_all t ms) rest
 first_told fs t rest ms first e =

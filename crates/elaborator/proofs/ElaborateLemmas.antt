@@ -23,7 +23,7 @@ use Rattle.elaborator.specs.declared.walk.Walk.{Walk}
 use Rattle.elaborator.proofs.StepLemmas.{faults_walk}
 use Rattle.elaborator.proofs.WalkLemmas.{all_clean, stands_faults}
 
--- what the top stands for behind nothing
+-- what the top gives where nothing comes before it
 walked_is : (base : ℕ) (ms : List Module) (top : List ℕ) (m : Option Module) → walked_top base ms top m (start top) ≡ elaborated_from base ms top m
 walked_is base ms top None = refl
 walked_is base ms top (Some m) = refl
@@ -36,7 +36,7 @@ stands_nothing top =
       numbers = λ open'. record { signals = refl; processes = refl; instances = refl; memories = refl; words = omega arith };
     }
 
--- faults of modules that are told first
+-- faults of modules that are reported first
 stands_first : (top : List ℕ) (fs : List Fault) → StandsFor (after_faults nothing_found fs) (after_faults nothing_found fs) 0 (start top)
 stands_first top fs = let s = stands_faults fs (stands_nothing top) in record { met = refl; told = s.told; numbers = s.numbers }
 
@@ -46,7 +46,7 @@ pub walks_present : {base : ℕ} {w later : Walk} (ms : List Module) (top : List
 walks_present {base = base} {w = w} {later = later} ms top m i found is walks =
     subst (λ o. WalksBy base w later (λ b st. walked_top b ms top o st)) (sym found) (subst (λ x. WalksBy base w later (λ b st. instance b ms 64 x st)) is walks)
 
--- that there is none is told
+-- that there is no such module is reported
 pub walks_absent : {base : ℕ} {w later : Walk} (ms : List Module) (top : List ℕ) → module_of ms top ≡ None → later.tally ≡ after_all w.tally (met_fault (missing_top top) ∷ []) → later.memories ≡ w.memories → later.draft ≡ w.draft →
     WalksBy base w later (λ b st. walked_top b ms top (module_of ms top) st)
 walks_absent {base = base} {w = w} {later = later} ms top found met memories draft =
@@ -68,16 +68,16 @@ module _ (ms : List Module) (top : List ℕ) where
       subst (IsAt before 0 b later) (walked_is b ms top named)
       ((walks before b (start top) (record { stands = subst (λ u. StandsFor before u 0 (start top)) (sym is) (stands_first top (two_modules [] ms)); built = λ d building. absurd (let e : None ≡ Some d = building.draft in cc) })).0)
 
-  -- all that was found, but for drivers
+  -- all that was found, except for drivers
   found_is : (t : Tally) (later : Walk) → t ≡ before → Walks 0 (record { tally = t; memories = 0; draft = None }) later → later.tally ≡ found ms top
   found_is t later is walks = (found_at t later is walks (length (elaborated_from 0 ms top named).design.signals)).stands.met
 
-  -- the first fault, with those of drivers behind all others
+  -- the first fault, with those of drivers after all others
   pub first_is : (t end : Tally) (later : Walk) → t ≡ before → Walks 0 (record { tally = t; memories = 0; draft = None }) later → end ≡ after_faults later.tally (driver_faults later.tally.writings) → end.first ≡ first_fault (faults_of ms top)
   first_is t end later is walks told =
       ap (λ u. u.first) told ∙ ap (λ u. (after_faults u (driver_faults u.writings)).first) (found_is t later is walks) ∙ sym (first_found ms top)
 
-  -- where no fault is told no limit is passed
+  -- where no fault is reported no limit is passed
   was_open : (t end : Tally) (later : Walk) → t ≡ before → Walks 0 (record { tally = t; memories = 0; draft = None }) later → end ≡ after_faults later.tally (driver_faults later.tally.writings) → end.first ≡ None → later.tally.ended ≡ false
   was_open t end later is walks told none = elim (cases_Bool later.tally.ended) [
     | inl ended ↦
@@ -102,7 +102,7 @@ module _ (ms : List Module) (top : List ℕ) where
   no_faults [] free = refl
   no_faults (f ∷ fs) free = absurd (false≢true (sym free.no_fault))
 
-  -- where no fault is told nothing is wrong from the beginning
+  -- where no fault is reported nothing is wrong from the beginning
   pub clean_is : (t end : Tally) (later : Walk) → t ≡ before → Walks 0 (record { tally = t; memories = 0; draft = None }) later → end ≡ after_faults later.tally (driver_faults later.tally.writings) → end.first ≡ None →
       IsClean (after_all nothing_found (elaborated ms top).met)
   clean_is t end later is walks told none =
@@ -141,7 +141,7 @@ module _ (ms : List Module) (top : List ℕ) where
   design_answered design signals none are built =
       ap (design_or (elaborated ms top).design) none ∙ ap (λ d. Ok d) (sym (built ∙ ap (λ b. (elaborated_from b ms top named).design) are))
 
-  -- the first fault, as it is told
+  -- the first fault, as it is reported
   pub fault_answered : (f : Fault) (fault : ElabFault) → first_fault (faults_of ms top) ≡ Some f → (fault ≡ NoMemory) ⊎ (fault ≡ told f) → IsAnsweredFault ms top fault
   fault_answered f fault first (inl memory) = inl memory
   fault_answered f fault first (inr is) = inr (f, ap (design_or (elaborated ms top).design) first, is)

@@ -58,7 +58,7 @@ entered_with w later i e met still memories instance drafted draft line node nam
           subst (λ g. is_faulty_entry (look_up g x) ≡ false) (sym scope) ((scope_sound i w.tally.counts.signals w.memories (opening_parts i free).2).sound x);
     }
 
--- behind a fault that is a limit nothing counts
+-- after a fault that is a limit nothing counts
 pub limit_ends : (t : Tally) (f : Fault) → is_limit f ≡ true → (after t (met_fault f)).ended ≡ true
 limit_ends t f limit = by_ended t.ended refl
   where

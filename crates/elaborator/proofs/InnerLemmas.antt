@@ -16,7 +16,7 @@ use Rattle.flat_design.specs.Flat.{is_same_place}
 use Rattle.flat_laws.proofs.LawfulScope.{same_bytes}
 use Rattle.elab_instances.specs.InstanceView.{around_view}
 
--- the declaration stands at this place
+-- the declaration is at this place
 abbrev pub stands_at : Option Declaration → Place → Bool
 stands_at None p = false
 stands_at (Some d) p = is_same_place d.name.place p
@@ -34,7 +34,7 @@ or_false : (a b : Bool) → b ≡ false → (a || b) ≡ a
 or_false true b e = refl
 or_false false b e = e
 
--- of names that are declared once each, the declaration of one stands at a place
+-- of names that are declared once each, the declaration of one is at a place
 pub declared_at : (ds : List Declaration) (x : List ℕ) (p : Place) → AreDistinct (map (λ d. d.name.name) ds) → list_any (λ d. bytes_eq d.name.name x && is_same_place d.name.place p) ds ≡ stands_at (declaration_of ds x) p
 declared_at [] x p once = refl
 declared_at (d ∷ ds) x p once = by_name (declared_at ds x p once.1) (bytes_eq d.name.name x) refl

@@ -16,7 +16,7 @@ use Rattle.elaborator.specs.declared.walk.Numbers.{Numbers}
 use Rattle.elaborator.specs.declared.walk.Walk.{Walk}
 use Rattle.elaborator.proofs.StepLemmas.{ended_walks, opened_among, opened_ends, remains_twice, scope_numbers, walks_go, was_clean}
 
--- an instance whose faults are told and which is walked, where its scope is found, and then its ports are joined
+-- an instance whose faults are reported and which is walked, where its scope is found, and then its ports are joined
 pub replaced_goes : {base : ℕ} {w told below later : Walk} {numbers : Numbers} (ms : List Module) (depth : ℕ) (given : Instantiation) (g inside : Scope) (p : Place) (i : Instantiation) (js : List JoinedPort) (fs : List Fault) →
     WalksBy base w told (λ b st. meet (met_faults fs) st) →
     WalksBy base told below (λ b st. instance b ms depth i st) →

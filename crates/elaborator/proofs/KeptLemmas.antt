@@ -1,4 +1,4 @@
--- What a walk goes by says what it keeps to, and that nothing was told before where nothing is told later.
+-- What a walk goes by says what it keeps to, and that nothing was reported before where nothing is reported later.
 use Rattle.std.proofs.Common.{◌≡◌, ℕ, ◌+◌, [], replicate, refl, sym, subst, arith}
 use Rattle.std.proofs.lemmas.List.{length-replicate}
 use Rattle.design_model.specs.Design.{no_instance, no_memory, no_process, no_signal}
@@ -26,7 +26,7 @@ some_sofar w =
       met = [];
     }
 
--- a walk that keeps to it has come to some part of a flat design, which is none that it builds
+-- a walk that keeps to it has come to some part of a flat design, which is not one that it builds
 kept_at : (base : ℕ) (w : Walk) → IsKept w → IsAt w.tally base (base + 1) w (some_sofar w)
 unfolding some_sofar
 kept_at base w kept =

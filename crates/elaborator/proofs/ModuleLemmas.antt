@@ -1,4 +1,4 @@
--- Where the first module of each name stands.
+-- Where the first module of each name is.
 use Rattle.std.proofs.Common.{◌≡◌, ℕ, suc, ◌+◌, Bool, true, false, ◌||◌, if◌then◌else◌, List, [], ◌∷◌, ◌++◌, Option, Some, None, refl, ap, sym, ◌∙◌, inl, inr, arith}
 use Rattle.std.specs.Prelude.{bytes_eq, is_some, length, map, slice_get}
 use Rattle.std.specs.Option.{option_or, option_copied, option_map}
@@ -78,7 +78,7 @@ by_places sofar places k (m ∷ ms) h =
 pub or_nothing : (f : List ℕ → Option ℕ) (k : ℕ) → or_bound f (first_places k []) ≡ f
 or_nothing f k = fun_ext (λ x. or_none (f x))
 
--- the module at the place where the first of a name stands
+-- the module at the place where the first of a name is
 found_by : (k : ℕ) (m : Module) (ms : List Module) (x : List ℕ) (i : ℕ) (b : Bool) → bytes_eq m.name.name x ≡ b →
     (first_places (k + 1) ms x ≡ Some i → (j : ℕ) × (i ≡ k + 1 + j) × (slice_get ms j ≡ module_of ms x)) →
     (if b then Some k else first_places (k + 1) ms x) ≡ Some i → (j : ℕ) × (i ≡ k + j) × (slice_get (m ∷ ms) j ≡ module_of (m ∷ ms) x)

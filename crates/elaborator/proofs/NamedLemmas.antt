@@ -1,4 +1,4 @@
--- Which instances an item names, and what is told where they have no items.
+-- Which instances an item names, and what is reported where they have no items.
 use Rattle.std.proofs.Common.{◌≡◌, ℕ, Bool, true, false, if◌then◌else◌, List, [], ◌∷◌, Some, None, refl, sym, ap, ◌∙◌}
 use Rattle.std.specs.List.{list_any}
 use Rattle.std.specs.Prelude.{bytes_eq, not}

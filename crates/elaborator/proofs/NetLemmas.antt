@@ -18,12 +18,12 @@ use Rattle.elaborator.specs.declared.walk.Walk.{Walk}
 use Rattle.elaborator.proofs.FreeLemmas.{met_clean}
 use Rattle.elaborator.proofs.StepLemmas.{goes_twice, still_goes}
 
--- where nothing is told in the end, nothing was before
+-- where nothing is reported in the end, nothing was before
 pub told_clean : {A E : Type 0} (r : Result A E) (t u v : Tally) (ms : List Met) → u ≡ after_all t ms → OnOk r (v ≡ u) → OnOk r (IsClean v → IsClean t)
 told_clean (Err e) t u v ms met same = same
 told_clean (Ok a) t u v ms met same = λ clean. met_clean t ms (subst IsClean met (subst IsClean same clean))
 
--- the next of the nets and those behind it
+-- the next of the nets and those after it
 pub nets_split : (xs : List code.Declared) (i : ℕ) (x : code.Declared) → i < length xs → x ≡ get_or xs i x → declareds_view (drop i xs) ≡ declared_view x ∷ declareds_view (drop (i + 1) xs)
 nets_split xs i x within is = rw (add-one, drop-cons xs i x within, ← is) refl
 

@@ -41,7 +41,7 @@ input_numbered g p label s e = record { met = λ b i k l n. refl; process = λ b
 pub output_numbered : (g : Scope) (p : Place) (s : SignalEntry) (e : Expr) → IsNumbered (λ b i k l n. joined_output b g i k p s e)
 output_numbered g p s e = record { met = λ b i k l n. refl; process = λ b i k l n. refl; adds = λ b i k l n. output_adds b g i k p s e }
 
--- where nothing is told in the end, nothing that was met is a fault, and what holds where nothing was told before holds
+-- where nothing is reported in the end, nothing that was met is a fault, and what holds where nothing was reported before holds
 pub still_clear : {P : Type 0} {t later : Tally} (ms : List Met) → later ≡ after_all t ms → IsClean later → (IsClean t → P) → P × bodies.IsFree ms
 still_clear {t = t} ms met clean holds =
     let told : IsClean (after_all t ms) = subst IsClean met clean in

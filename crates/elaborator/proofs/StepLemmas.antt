@@ -17,7 +17,7 @@ use Rattle.elaborator.specs.declared.walk.Numbers.{Numbers}
 use Rattle.elaborator.specs.declared.walk.Walk.{Walk}
 use Rattle.elaborator.proofs.WalkLemmas.{all_clean, stands_ended, stands_met, stands_opened, stands_process}
 
--- where nothing was told in the end, nothing was before
+-- where nothing was reported in the end, nothing was before
 pub was_clean : (w later : Walk) (ms : List Met) → later.tally ≡ after_all w.tally ms → IsClean later.tally → IsClean w.tally × IsFree ms
 was_clean w later ms met clean = all_clean w.tally ms (subst IsClean met clean)
 
@@ -78,7 +78,7 @@ pub still_goes : {base : ℕ} (w : Walk) (numbers : Numbers) → GoesBy base w n
 still_goes w numbers before b st i l n among =
     (record { at = among.at; numbered = λ d building. let is = among.numbered d building in (is.0, omega (arith, is.1), omega (arith, is.2)) }, record { drafted = refl; was = λ d some clean. (d, some, clean) })
 
--- one step behind the other
+-- one step after the other
 pub goes_twice : {base : ℕ} {w next later : Walk} {numbers between others : Numbers} {f g : ℕ → ℕ → ℕ → ℕ → Sofar → Sofar} (lines more_lines nodes more_nodes : ℕ) →
     GoesBy base w numbers next between f lines nodes → GoesBy base next between later others g more_lines more_nodes →
     GoesBy base w numbers later others (λ b i l n st. g b i (l + lines) (n + nodes) (f b i l n st)) (lines + more_lines) (nodes + more_nodes)
@@ -89,7 +89,7 @@ goes_twice {f = f} lines more_lines nodes more_nodes first second before b st i 
       remains_twice one.1 two.1,
     )
 
--- faults that are told, where no design is built any more
+-- faults that are reported, where no design is built any more
 pub faults_walk : {base : ℕ} {w later : Walk} (fs : List Fault) → later.tally ≡ after_all w.tally (met_faults fs) → later.memories ≡ w.memories → later.draft ≡ w.draft → WalksBy base w later (λ b st. meet (met_faults fs) st)
 faults_walk {w = w} {later = later} fs met memories draft before b st at =
     let clean : IsClean later.tally → IsClean w.tally = λ c. (was_clean w later (met_faults fs) met c).0 in (
@@ -100,7 +100,7 @@ faults_walk {w = w} {later = later} fs met memories draft before b st at =
       record { drafted = ap is_some draft; was = λ d some c. (d, sym draft ∙ some, clean c) },
     )
 
--- behind a limit that is passed
+-- after a limit that is passed
 pub ended_walks : {base : ℕ} {w later : Walk} (f : ℕ → Sofar → Sofar) → later.tally ≡ w.tally → later.draft ≡ w.draft → w.tally.ended ≡ true → ((b : ℕ) (st : Sofar) → Continues st (f b st)) → WalksBy base w later f
 ended_walks {w = w} {later = later} f same draft ended continues before b st at =
     let never : IsClean later.tally → ⊥ = λ c. false≢true (sym c.open' ∙ ap (λ t. t.ended) same ∙ ended) in (
@@ -125,7 +125,7 @@ walks_go walks before b st i l n among =
       end.1,
     )
 
--- one walk behind the other
+-- one walk after the other
 pub walks_twice : {base : ℕ} {w next later : Walk} {f g : ℕ → Sofar → Sofar} → WalksBy base w next f → WalksBy base next later g → WalksBy base w later (λ b st. g b (f b st))
 walks_twice {f = f} first second before b st at =
     let one = first before b st at in

@@ -35,7 +35,7 @@ abbrev pub ItemGoes : ℕ → List Module → ℕ → Instantiation → Scope �
 ItemGoes base ms depth given g x w numbers later others =
     GoesBy base w numbers later others (λ b i l n st. item (instance b ms depth) b ms (around_here b given i g) x.place x.form l n st) (form_lines x.form) (form_nodes g x.form)
 
--- one item, and then what comes behind
+-- one item, and then what comes after it
 pub items_next : {base : ℕ} {w next later : Walk} {numbers between others : Numbers} (ms : List Module) (depth : ℕ) (given : Instantiation) (g : Scope) (xs : List CodeItem) (n : ℕ) (x : CodeItem) → n < length xs → x ≡ get_or xs n x →
     ItemGoes base ms depth given g (item_view x) w numbers next between → ItemsGo base ms depth given g (items_view (drop (n + 1) xs)) next between later others → ItemsGo base ms depth given g (items_view (drop n xs)) w numbers later others
 items_next {base = base} {w = w} {later = later} {numbers = numbers} {others = others} ms depth given g xs n x within is first second =

@@ -1,4 +1,4 @@
--- The steps of a walk stand for the steps of elaboration.
+-- The steps of a walk represent the steps of elaboration.
 use Rattle.std.proofs.Common.{◌≡◌, inl, inr, ℕ, ◌+◌, ◌≤◌, Bool, true, false, ◌==◌, nat_lt, List, [], ◌∷◌, ◌++◌, Option, None, Some, if◌then◌else◌, refl, sym, ap, ◌∙◌, subst, length, map, arith, length-append}
 use Rattle.std.specs.List.{list_all, sum_by, filter, flat_map}
 use Rattle.std.proofs.lemmas.Bool.{false≢true, cases_Bool}
@@ -64,7 +64,7 @@ all_counted t (m ∷ ms) open' =
       instances = omega (arith, one.instances, others.instances, sum_by-cons instance_count m ms, sum_by-cons instance_count m []);
     }
 
--- a limit that is passed is told
+-- a limit that is passed is reported
 abbrev pub IsTold : Tally → Type 0
 IsTold t = t.ended ≡ true → t.first ≡ None → ⊥
 
@@ -94,7 +94,7 @@ pub all_told : (t : Tally) (ms : List Met) → IsTold t → IsTold (after_all t 
 all_told t [] told = told
 all_told t (m ∷ ms) told = all_told (after t m) ms (told_if t.ended t (with_met m t) told (one_told t m told))
 
--- where nothing is told nothing that was met is a fault, and nothing was told before
+-- where nothing is reported nothing that was met is a fault, and nothing was reported before
 counts_clear : (passed : Bool) (f : Fault) (c : Counts) (t : Tally) → (with_counts passed f c t).first ≡ None → t.first ≡ None
 counts_clear true f c t first = absurd (some_sooner t.first f first)
 counts_clear false f c t first = first
@@ -117,7 +117,7 @@ all_clean t (m ∷ ms) clean =
     let one = one_clear t m (sym (ap (λ u. u.first) (after_open t m open')) ∙ later.0.none) in
     (record { open' = open'; none = one.0 }, record { no_fault = rw one.1 later.1.no_fault })
 
--- behind a limit that is passed all that comes stands for nothing
+-- after a limit that is passed a tally also represents all that comes
 pub stands_ended : {before t : Tally} {n k : ℕ} {st later : Sofar} → StandsFor before t n st → t.ended ≡ true → Continues st later → StandsFor before t k later
 stands_ended {before = before} {t = t} {st = st} {later = later} stands ended continues =
     record {
@@ -182,7 +182,7 @@ memories_few : (n : ℕ) (ds : List Declaration) → length ds ≤ sum_by (λ m.
 memories_few n [] = omega arith
 memories_few n (d ∷ ds) = omega (arith, sum_by-cons (λ m. span m.first m.last) (memory_of n d) (map (memory_of n) ds), memories_few n ds)
 
--- no limit counts what an opening tells of these
+-- no limit counts what an opening reports of these
 opening_counts : (f : Met → ℕ) → ((m : Met) → is_inner m ≡ true → f m ≡ 0) → (i : Instantiation) → f (met_instance i.item) ≡ 0 → sum_by f (opening_met i) ≡ sum_by f (flat_map (declared_met i) (declared i.overrides i.of_module))
 opening_counts f h i none_of = omega (arith, sum_opening f (λ m told. h m (told_inner m told)) i, none_of)
 

@@ -27,7 +27,7 @@ OneGoes base ms depth given g p x m os o numbers w later = GoesBy base w numbers
 abbrev pub OnesGo : ℕ → List Module → ℕ → Instantiation → Scope → Place → InstanceItem → Module → List Override → List One → Numbers → Walk → Walk → Type 0
 OnesGo base ms depth given g p x m os more numbers w later = GoesBy base w numbers later numbers (λ b i l n st. all_instances (instance b ms depth) b (around_here b given i g) p x m os more st) 0 0
 
--- one instance, and then what comes behind
+-- one instance, and then what comes after it
 pub ones_next : {base : ℕ} {w next later : Walk} {numbers : Numbers} (ms : List Module) (depth : ℕ) (given : Instantiation) (g : Scope) (p : Place) (x : InstanceItem) (m : Module) (os : List Override) (ones : List CodeOne) (n : ℕ) (o : CodeOne) → n < length ones → o ≡ get_or ones n o →
     OneGoes base ms depth given g p x m os (one_view o) numbers w next → OnesGo base ms depth given g p x m os (ones_view (drop (n + 1) ones)) numbers next later → OnesGo base ms depth given g p x m os (ones_view (drop n ones)) numbers w later
 ones_next {base = base} {w = w} {later = later} {numbers = numbers} ms depth given g p x m os ones n o within is first second =

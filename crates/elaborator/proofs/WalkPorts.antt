@@ -99,7 +99,7 @@ joined_at g (x ∷ js) (y ∷ ks) (suc n) j k within within' is is' how =
     let tail : map joined_view ks ≡ map (λ j. joining g j.port j.label j.value) (ports_view js) = cc in
     joined_at g js ks n j k (omega arith) (omega arith) is is' tail
 
--- one port, and then what comes behind
+-- one port, and then what comes after it
 pub ports_next : {base : ℕ} {w next later : Walk} {numbers : Numbers} (given : Instantiation) (g inside : Scope) (p : Place) (js : List CodePort) (n : ℕ) (j : CodePort) → n < length js → j ≡ get_or js n j →
     GoesBy base w numbers next numbers (λ b i l k st. join_port (around_here b given i g) p inside (port_view j) st) 0 0 →
     GoesBy base next numbers later numbers (λ b i l k st. join_ports (around_here b given i g) p inside (ports_view (drop (n + 1) js)) st) 0 0 →

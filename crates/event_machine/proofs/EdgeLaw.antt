@@ -1,4 +1,4 @@
--- The edge law: a clean block is evaluated exactly once, on the values of the step's start but for early things and its trigger.
+-- The edge law: a clean block is evaluated exactly once, on the values of the step's start except for early things and its trigger.
 use Rattle.std.proofs.Common.{◌≡◌, ◌≢◌, ◌⊎◌, inl, ⊎_elim, ℕ, true, false, true≢false, List, [], ◌∷◌, ◌++◌, refl, sym, ap, subst, ◌∙◌, append-nil}
 use Rattle.std.proofs.lemmas.Bool.{cases_Bool}
 use Rattle.event_machine.specs.Cell.{Cell, Changes, UpdatesCell, Values, Write, put_all}
@@ -29,7 +29,7 @@ settled_pending m t single h b c s settled old =
       phase = inl (old, settled.none_woken b);
     }
 
--- told inputs have their old or new value at each event
+-- reported inputs have their old or new value at each event
 told_at : {V : Type 0} (m : Machine V) (lawful : IsLawful m) (t : Told V) (before after : List (Event V)) (s : State V) → AreWrites m s → IsLegal m s (before ++ after) → IsToldSoFar m lawful t s → EndsAsTold m lawful t (end_state m s (before ++ after)).values → (d : Cell) → IsToldInput m t d → ((end_state m s before).values d ≡ t.old d) ⊎ ((end_state m s before).values d ≡ t.new d)
 told_at m lawful t [] after s are legal so_far ends = told_values m lawful t after s are legal so_far ends
 told_at m lawful t (e ∷ before) after s are legal so_far ends =

@@ -1,4 +1,4 @@
--- What the environment does in a step: each told input cell changes at most once, from its old to its new value.
+-- What the environment does in a step: each reported input cell changes at most once, from its old to its new value.
 use Rattle.std.specs.Prelude.{⊤}
 use Rattle.std.proofs.Common.{◌≡◌, ◌⊎◌, inl, inr, ⊎_elim, ℕ, Bool, true, false, true≢false, List, [], ◌∷◌, refl, sym, ap, subst, ◌∙◌}
 use Rattle.std.proofs.lemmas.Bool.{cases_Bool}
@@ -112,7 +112,7 @@ untouched_old_new t single v (w ∷ ws) none =
     (λ one differ. absurd (none w.cell (inl refl) one), untouched_old_new t single (put v w) ws (λ c h. none c (inr h)))
 
 module _ {V : Type 0} (m : Machine V) (lawful : IsLawful m) (t : Told V) where
-  -- a told input that has not moved has its old value
+  -- a reported input that has not moved has its old value
   unfoldable pub IsToldSoFar : State V → Type 0
   IsToldSoFar s = (c : Cell) → IsToldInput m t c → s.moved c ≡ false → s.values c ≡ t.old c
 
@@ -159,7 +159,7 @@ module _ {V : Type 0} (m : Machine V) (lawful : IsLawful m) (t : Told V) where
   so_far_kept s Activate are so_far c told is = so_far c told is
   so_far_kept s Apply are so_far c told is = put_all_other _ _ c (input_still m lawful s Apply c are told.0) ∙ so_far c told is
 
-  -- told inputs change as told, at each event
+  -- reported inputs change as reported, at each event
   pub events_old_new : (es : List (Event V)) (s : State V) → AreWrites m s → IsLegal m s es → IsToldSoFar s → EndsAsTold (end_state m s es).values → AllOldToNew t (IsToldInput m t) m s es
   events_old_new [] s are legal so_far ends = tt
   events_old_new (e ∷ es) s are legal so_far ends =
@@ -168,7 +168,7 @@ module _ {V : Type 0} (m : Machine V) (lawful : IsLawful m) (t : Told V) where
         events_old_new es (state_after m s e) next legal.1 (so_far_kept s e are so_far) ends,
       )
 
-  -- at each moment a told input has its old or its new value
+  -- at each moment a reported input has its old or its new value
   pub told_values : (es : List (Event V)) (s : State V) → AreWrites m s → IsLegal m s es → IsToldSoFar s → EndsAsTold (end_state m s es).values → (c : Cell) → IsToldInput m t c → (s.values c ≡ t.old c) ⊎ (s.values c ≡ t.new c)
   unfolding IsToldSoFar Ends
   told_values es s are legal so_far ends c told =

@@ -110,7 +110,7 @@ unfolding IsToldSoFar EndsAsTold
 step_old_new m lawful h t s es step as_told =
     events_old_new m lawful t es s (settled_writes m s step.starts) step.legal (λ c told unmoved. (as_told c (told.1, inl told.0)).0) (λ c told. (as_told c (told.1, inl told.0)).1)
 
--- where all inputs are told and none changes, no event can be the first
+-- where all inputs are reported and none changes, no event can be the first
 no_events : {V : Type 0} (m : Machine V) → IsLawful m → (h : Habit) (t : Told V) (s : State V) (es : List (Event V)) → IsStep m h s es → IsAsTold m t s es → ((c : Cell) → m.is_input c ≡ true → (t.is_told c.thing ≡ true) × (t.old c ≡ t.new c)) → es ≡ []
 no_events m lawful h t s [] step as_told still = refl
 no_events m lawful h t s (Move [] ∷ es) step as_told still = absurd (step.legal.0.0 refl)

@@ -33,12 +33,12 @@ join_all_old_new m t A B (e ∷ es) s a b = (
   join_all_old_new m t A B es (state_after m s e) a.1 (λ c is. (b c is).1),
 )
 
--- told inputs are single in each round
+-- reported inputs are single in each round
 pub told_single : {V : Type 0} (m : Machine V) (t : Told V) (n : ℕ) (c : Cell) → IsToldInput m t c → IsSingle m t n c
 told_single m t zero c is = is
 told_single m t (suc n) c is = inl is
 
--- what is single in some round is told
+-- what is single in some round is reported
 pub single_told : {V : Type 0} (m : Machine V) (t : Told V) (n : ℕ) (c : Cell) → IsSingle m t n c → IsToldCell m t c
 single_told m t zero c is = (is.1, inl is.0)
 single_told m t (suc n) c (inl is) = (is.1, inl is.0)

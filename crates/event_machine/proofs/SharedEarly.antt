@@ -5,7 +5,7 @@ use Rattle.event_machine.specs.Machine.{Machine}
 use Rattle.event_machine.specs.Early.{IsEarly}
 use Rattle.event_machine.specs.SharedEarly.{HasNoBlocking, SharedEarlyLaw}
 
--- a block without blocking targets is none that writes by a blocking write
+-- a block without blocking targets is not one that writes by a blocking write
 apart : {V : Type 0} (m : Machine V) (b p : ℕ) (d : Cell) → HasNoBlocking m b → m.blocking p d ≡ true → p ≢ b
 apart m b p d none blocks same = true≢false (sym blocks ∙ ap (λ q. m.blocking q d) same ∙ none d)
 

@@ -7,7 +7,7 @@ use Rattle.whole_files.proofs.Lines.{WarnsLine-is}
 use Rattle.covered_cli.specs.PointsMessage.{points_line}
 use Rattle.covered_cli.proofs.points_message.warn_points.Goals as goal
 
--- a fault that is none of memory
+-- a fault that is not of memory
 of_source : (f : PointFault) → (f ≡ NoMemory → ⊥) → codes "covered: source: " ++ point_text f ++ codes "\n" ≡ points_line f
 of_source NoMemory apart = absurd (apart refl)
 of_source other apart = refl

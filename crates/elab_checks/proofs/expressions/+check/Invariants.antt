@@ -8,7 +8,7 @@ use Rattle.verilog_tree.specs.declared.expr.Expr.{size-Expr}
 use Rattle.elab_scope.specs.Tally.{after_faults}
 use Rattle.elab_checks.proofs.expressions.+check.Given as goal
 
--- what was told so far, and then what is told of the rest, is what is told of all
+-- what was reported so far, and then what is reported of the rest, is what is reported of all
 abbrev pub invariant-check_all-loop-expr : goal.invariant-check_all-loop-expr
 invariant-check_all-loop-expr l =
     let rest = all_faults (binding_of l.scope) (exprs_of (exprs_view (drop l.expr-index l.exprs))) in

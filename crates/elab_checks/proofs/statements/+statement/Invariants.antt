@@ -24,7 +24,7 @@ invariant-check_arms-loop-arm l =
       kept : binding_of l.scope ≡ binding_of l.fn.scope;
     }
 
--- the same of the turns, while all names but the variable stand for what they did
+-- the same of the turns, while all names except the variable mean what they did
 abbrev pub invariant-check_turns-loop-value : goal.invariant-check_turns-loop-value
 invariant-check_turns-loop-value l =
     let g = binding_of l.fn.scope in

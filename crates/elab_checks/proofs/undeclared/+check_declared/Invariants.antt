@@ -9,7 +9,7 @@ use Rattle.verilog_tree.specs.declared.expr.Expr.{size-Expr}
 use Rattle.elab_scope.specs.Tally.{after_faults}
 use Rattle.elab_checks.proofs.undeclared.+check_declared.Given as goal
 
--- what was told so far, and then what is told of the rest, is what is told of all
+-- what was reported so far, and then what is reported of the rest, is what is reported of all
 abbrev pub invariant-check_each-loop-expr : goal.invariant-check_each-loop-expr
 invariant-check_each-loop-expr l =
     let rest = flat_map (λ x. fault_if (is_none (look_up (binding_of l.scope) x.name)) (fault_at Undeclared x)) (all_identifiers (exprs_of (exprs_view (drop l.expr-index l.exprs)))) in

@@ -10,7 +10,7 @@ use Rattle.elab_conflicts.proofs.ConflictsFound.{first_conflict, first_conflict-
 use Rattle.elab_conflicts.proofs.ConflictsKept.{kept-more}
 use Rattle.elab_conflicts.proofs.conflicts.first_conflict.Goals as goal
 
--- what a read behind the end of the writings gives
+-- what a read after the end of the writings gives
 abbrev unread : Written
 unread =
     record {

@@ -6,7 +6,7 @@ use Rattle.elab_instances.specs.Entering.{numbers_past, role_entries}
 use Rattle.elab_instances.specs.Linked.{links_view}
 use Rattle.elab_instances.proofs.entries.bind_declared.Given as goal
 
--- the names so far, and behind them the others, are all, and so are the numbers
+-- the names so far, and after them the others, are all, and so are the numbers
 abbrev pub invariant-loop-declaration : goal.invariant-loop-declaration
 invariant-loop-declaration l =
     let rest = declarations_view (drop l.declaration-index l.declared) in

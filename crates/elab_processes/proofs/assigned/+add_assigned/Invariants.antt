@@ -27,7 +27,7 @@ invariant-add_arms-loop-arm l =
       kept : binding_of l.scope ≡ g;
     }
 
--- the same of the turns, while all names but the variable stand for what they did
+-- the same of the turns, while all names except the variable mean what they did
 abbrev pub invariant-add_turns-loop-value : goal.invariant-add_turns-loop-value
 invariant-add_turns-loop-value l =
     let g = binding_of l.fn.scope in

@@ -10,7 +10,7 @@ use Rattle.elab_checks.proofs.RestoredLemmas.{SameBut}
 use Rattle.elab_processes.specs.Listed.{lacking}
 use Rattle.elab_processes.proofs.incomplete.+check_reads.Given as goal
 
--- what was told so far, and then what is told of the rest, is what is told of all
+-- what was reported so far, and then what is reported of the rest, is what is reported of all
 abbrev pub invariant-check_all_reads-loop-statement : goal.invariant-check_all_reads-loop-statement
 invariant-check_all_reads-loop-statement l =
     let g = binding_of l.fn.scope in
@@ -27,7 +27,7 @@ invariant-check_arms-loop-arm l =
       kept : binding_of l.scope ≡ g;
     }
 
--- the same of the turns, while all names but the variable stand for what they did
+-- the same of the turns, while all names except the variable mean what they did
 abbrev pub invariant-check_turns-loop-value : goal.invariant-check_turns-loop-value
 invariant-check_turns-loop-value l =
     let g = binding_of l.fn.scope in

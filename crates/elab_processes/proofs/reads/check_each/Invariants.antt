@@ -7,7 +7,7 @@ use Rattle.elab_scope.specs.View.{writing_view}
 use Rattle.elab_processes.specs.Reads.{AreSound, parts_view}
 use Rattle.elab_processes.proofs.reads.check_each.Given as goal
 
--- what is told so far, with the rest, is what is told of all
+-- what is reported so far, with the rest, is what is reported of all
 abbrev pub invariant-loop-part : goal.invariant-loop-part
 invariant-loop-part l =
     let one = self_read (binding_of l.fn.scope) (map writing_view l.fn.driven) in
