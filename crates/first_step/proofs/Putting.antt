@@ -104,7 +104,7 @@ module _ (codes : List (Option ℕ)) (s : ℕ) (coded : has_code codes s ≡ tru
   pub one_knows : (d : Design) (new : Values Bit) (k : Kept) → putting d (s ∷ []) new k ≡ putting_all d (λ t. has_code codes t && s == t) new k
   one_knows d new k = fun_ext (λ c. ap (λ t. if t && nat_lt c.place (signal_at d c.thing).width then Some (new c) else k c) (one_test c.thing))
 
--- where it has no code there is none
+-- where it has no code there is no such test
 pub no_test : (codes : List (Option ℕ)) (s : ℕ) → has_code codes s ≡ false → (t : ℕ) → (has_code codes t && s == t) ≡ false
 no_test codes s none t = go (has_code codes t) refl (s == t) refl
   where

@@ -1,4 +1,4 @@
--- An expression that has no fault, and names nothing that has one, has none of constants, bounds and widths.
+-- An expression that has no fault, and names nothing that has one, has no fault of constants, bounds and widths.
 use Rattle.std.proofs.Common.{◌≡◌, ◌∙◌, refl, sym, ℕ, ◌*◌, nat_le, Bool, true, false, not, ◌&&◌, ◌||◌, if◌then◌else◌, List, [], ◌∷◌, ◌++◌, flat_map, is_none, Option, Some, None}
 use Rattle.std.specs.List.{list_all, list_any}
 use Rattle.std.proofs.lemmas.List.Folds.{list_any-append, list_all-append}
@@ -90,7 +90,7 @@ pub none_else : {A : Type 0} (b : Bool) (xs ys : List A) → b ≡ false → non
 none_else false xs ys b e = e
 none_else true xs ys b e = absurd cc
 
--- a fault that is none does not hold
+-- the test of a fault that is not reported does not hold
 pub not_if : (b : Bool) (f : Fault) → none (fault_if b f) ≡ true → b ≡ false
 not_if false f e = refl
 not_if true f e = absurd cc
@@ -308,7 +308,7 @@ name_none (Some (a_turn v)) x p u f = refl
 name_none (Some (a_signal s)) x p u f = refl
 name_none (Some _) x p u f = absurd cc
 
--- what stands before a select
+-- what comes before a select
 before_none : (g : Scope) (of : Expr) (i : Expr) (is : List Fault) → none (bit_faults g of (faults g of) i is) ≡ true → (none is ≡ true) × (is_memory_name g of ≡ false → none (faults g of) ≡ true)
 before_none g of i is a = go (is_memory_name g of) (look_up g (base_name of).name) refl a
   where

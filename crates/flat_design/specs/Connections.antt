@@ -87,7 +87,7 @@ overrides g label m cs = flat_map (λ c. override_of g c.port c.value) (connecti
 pub data Joined : Type 0 where
   as_alias : ℕ → Joined  -- they are one signal
   by_assignment : Joined
-  not_joined : Joined  -- a fault stands
+  not_joined : Joined  -- there is a fault
 
 -- an output is joined to nets that are no inputs
 abbrev pub takes_output : SignalEntry → Bool

@@ -61,7 +61,7 @@ abbrev pub values_of : Result (List Vector) ConstFault → List Vector
 values_of (Ok vs) = vs
 values_of (Err f) = []
 
--- the values of the variable, one for each turn; a loop whose header has a fault has none
+-- the values of the variable, one for each turn; a loop whose header has a fault has no turns
 abbrev pub turns : Scope → Header → List Vector
 turns g h = values_of (answer g h)
 

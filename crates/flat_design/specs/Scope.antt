@@ -57,7 +57,7 @@ with_bindings bs g = λ x. entry_or (binding_of bs x) (g x)
 abbrev pub no_names : Scope
 no_names = λ x. None
 
--- the range, [0:0] for what has none
+-- the range, [0:0] for what has no range
 abbrev pub range_or : Option Range → Range
 range_or None = record { high = 0; low = 0 }
 range_or (Some r) = r

@@ -45,7 +45,7 @@ none_found : (g : Names) (o : Option _) (es : Exprs) → first_fault g o es ≡ 
 none_found g o no_exprs h = h
 none_found g o (an_expr e es) h = (neither o (fault_of g e) (none_found g (earlier o (fault_of g e)) es h)).0
 
--- of parts without a fault the first has none, nor have the others
+-- of parts without a fault the first has no fault, nor have the others
 sound_parts : (g : Names) (e : Expr) (es : Exprs) → first_fault g None (an_expr e es) ≡ None → (fault_of g e ≡ None) × (first_fault g None es ≡ None)
 sound_parts g e es h =
     let first : fault_of g e ≡ None = none_found g (fault_of g e) es h in

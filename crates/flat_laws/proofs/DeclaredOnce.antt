@@ -1,4 +1,4 @@
--- Each declared name of a module without fault stands for one declaration.
+-- Each declared name of a module without fault means one declaration.
 use Rattle.std.proofs.Common.{◌≡◌, ◌⊎◌, inl, inr, ℕ, Bool, true, false, not, ◌&&◌, cond, if◌then◌else◌, List, [], ◌∷◌, ◌++◌, Some, None, refl, sym, ap, ◌∙◌, subst, map}
 use Rattle.std.specs.List.{flat_map}
 use Rattle.std.specs.Prelude.{bytes_eq, is_none}

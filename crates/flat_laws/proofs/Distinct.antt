@@ -1,4 +1,4 @@
--- Lists in which nothing stands twice.
+-- Lists that contain nothing twice.
 use Rattle.std.proofs.Common.{◌≡◌, ◌⊎◌, inl, inr, Bool, true, false, cond, List, [], ◌∷◌, ◌++◌, refl, sym, ap, ◌∙◌, subst, map}
 use Rattle.std.specs.List.{filter, flat_map}
 use Rattle.std.proofs.lemmas.List.{map-append}
@@ -6,7 +6,7 @@ use Rattle.design_model.specs.Design.{In, AreDistinct}
 use Rattle.flat_laws.proofs.LawfulNames.{in_map_back}
 use Rattle.flat_laws.proofs.Members.{in_append, in_map, in_filter, in_flat_map}
 
--- nothing stands in both
+-- nothing is in both
 abbrev pub AreApart : {A : Type 0} → List A → List A → Type 0
 AreApart {A} xs ys = (x : A) → In x xs → In x ys → ⊥
 

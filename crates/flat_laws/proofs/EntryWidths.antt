@@ -1,4 +1,4 @@
--- What names stand for has from 1 to 128 bits, and so has each expression without fault.
+-- What names mean has from 1 to 128 bits, and so has each expression without fault.
 use Rattle.std.proofs.Common.{◌≡◌, inl, inr, ℕ, zero, suc, ◌≤◌, max, Bool, true, false, not, ◌&&◌, cond, if◌then◌else◌, List, [], ◌∷◌, ◌++◌, Option, Some, None, Result, Ok, Err, refl, sym, ap, subst, length, arith}
 use Rattle.std.specs.List.{find}
 use Rattle.std.specs.Prelude.{bytes_eq, is_none, unwrap_or}

@@ -15,7 +15,7 @@ use Rattle.flat_design.specs.Identifiers.{named}
 use Rattle.flat_laws.proofs.TextParts.{declared_as, given_as, header_as, instance_as, item_as, module_as, one_as, param_as, port_as, range_as, vector_as}
 use Rattle.flat_laws.proofs.ExampleParts.{at, known, vector}
 
--- the first fault that stands in modules with the top m
+-- the first fault of modules with the top m
 abbrev first : List Module → Option Fault
 first ms = first_fault (faults_of ms (codes "m"))
 

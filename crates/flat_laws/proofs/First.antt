@@ -1,4 +1,4 @@
--- The fault that is answered stands; a design is answered only where none does.
+-- The fault that is answered is among the faults of the modules; a design is answered only where they have no fault.
 use Rattle.std.proofs.Common.{◌≡◌, refl, inl, inr, ℕ, Bool, true, false, cond, List, [], ◌∷◌, Result, Ok, Err, ap, sym, subst}
 use Rattle.std.proofs.lemmas.Bool.{false≢true}
 use Rattle.design_model.specs.Design.{Design, In}
@@ -50,6 +50,6 @@ fault_stands ms top f e = answered_in (elaborated ms top).design (faults_of ms t
 pub none_stands : (ms : List Module) (top : List ℕ) (d : Design) → answer ms top ≡ Ok d → faults_of ms top ≡ []
 none_stands ms top d e = none_answered (elaborated ms top).design d (faults_of ms top) e
 
--- so no fault stands
+-- so there is no fault
 pub no_fault_stands : (ms : List Module) (top : List ℕ) (d : Design) → answer ms top ≡ Ok d → (f : Fault) → Stands ms top f → ⊥
 no_fault_stands ms top d e f h = subst (λ fs. In f fs) (none_stands ms top d e) h

@@ -25,7 +25,7 @@ pub neither : (a b : Bool) → (a || b) ≡ false → (a ≡ false) × (b ≡ fa
 neither true b e = absurd cc
 neither false b e = (refl, e)
 
--- a fault that is not told does not hold
+-- a fault that is not reported does not hold
 pub not_told : (b : Bool) (f : Fault) → fault_if b f ≡ [] → b ≡ false
 not_told true f e = absurd cc
 not_told false f e = refl
@@ -87,7 +87,7 @@ pub record IsWithin (c : Counts) : Type 0 where
   pub statements : c.statements ≤ 1048576
   pub text : c.text ≤ 134217728
 
--- what is told where nothing is told
+-- what holds where no fault is reported
 pub record IsTold (c : Counts) (rest : List Fault) (ms : List Met) : Type 0 where
   pub rest_empty : rest ≡ []
   pub free : IsFree ms

@@ -37,7 +37,7 @@ pub record IsNumber (g : Scope) (e : Expr) (z : ℤ) : Type 0 where
 abbrev pub bits_of : Scope → Expr → List Bit
 bits_of g e = (constant g e).bits
 
--- its bits are known, and stand for the number
+-- its bits are known, and represent the number
 known_bits : (g : Scope) (e : Expr) (z : ℤ) → IsNumber g e z → (all_known (bits_of g e) ≡ true) × (whole (shape g e).signed (bits_of g e) ≡ z)
 known_bits g e z h = index_whole (shape g e).signed (bits_of g e) z h.number
 

@@ -25,7 +25,7 @@ record HasName (cs : List Declaration) (x : List ℕ) : Type 0 where
   is_in : In found cs
   named : name_of found ≡ x
 
--- the name that is added stands among the declarations
+-- the name that is added is among the declarations
 added_here : (cs : List Declaration) (d : Declaration) → HasName (add_declaration cs d) (name_of d)
 added_here [] d = record { found = d; is_in = inl refl; named = refl }
 added_here (c ∷ cs) d = by_name (added_here cs d) (bytes_eq c.name.name d.name.name) refl
@@ -53,7 +53,7 @@ added_keeps (c ∷ cs) d x h = by_name (added_keeps cs d x) (bytes_eq c.name.nam
     by_name rest false (inl e) = record { found = c; is_in = inl refl; named = ap name_of e ∙ h.named }
     by_name rest false (inr k) = let r = rest (record { found = h.found; is_in = k; named = h.named }) in record { found = r.found; is_in = inr r.is_in; named = r.named }
 
--- what nothing completes has none of the names before it
+-- a declaration that nothing completes has a name that no declaration before it has
 no_more : (sofar ds : List Declaration) → twice_faults sofar ds ≡ [] → (d : Declaration) → In d ds → is_plain d.sort ≡ true → HasName sofar (name_of d) → ⊥
 no_more sofar [] once d h plain named = h
 no_more sofar (e ∷ ds) once d (inl same) plain named =

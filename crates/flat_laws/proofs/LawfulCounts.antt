@@ -144,11 +144,11 @@ count_turns : (vs : List Vector) (f : Vector → List Met) (h : Vector → Stmt)
 count_turns [] f h same = refl
 count_turns (v ∷ vs) f h same = omega (arith, sum_by-append statement_count (f v) (met_turns vs f), same v, count_turns vs f h same)
 
--- behind faults
+-- after faults
 after_faults : (fs : List Fault) (ms : List Met) → sum_by statement_count (met_faults fs ++ ms) ≡ sum_by statement_count ms
 after_faults fs ms = omega (arith, sum_by-append statement_count (met_faults fs) ms, no_statements_told (met_faults fs) (told_faults fs))
 
--- behind a statement and its text
+-- after a statement and its text
 after_text : (p : Place) (n : ℕ) (ms : List Met) → sum_by statement_count (met_statement p ∷ met_text p n ∷ ms) ≡ 1 + sum_by statement_count ms
 after_text p n ms = omega (arith, sum_by-cons statement_count (met_statement p) (met_text p n ∷ ms), sum_by-cons statement_count (met_text p n) ms)
 

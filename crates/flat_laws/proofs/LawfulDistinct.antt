@@ -55,7 +55,7 @@ names_in d = record { signals = map signal_name d.signals; memories = map memory
 abbrev with_names : Names → Names → Names
 with_names a b = record { signals = a.signals ++ b.signals; memories = a.memories ++ b.memories; constants = a.constants ++ b.constants; aliases = a.aliases ++ b.aliases }
 
--- no name stands twice
+-- no name is there twice
 record AreDifferent (a : Names) : Type 0 where
   signals : AreDistinct a.signals
   memories : AreDistinct a.memories
@@ -299,7 +299,7 @@ different_here n i st depth ports free = record {
         by_number (Some k) is t = ports d.name.name k is
         by_number None is t = absurd (false≢true t)
 
--- each name stands in an instance, and no name stands twice
+-- each name is in an instance, and no name is there twice
 record AreNamed (st : Sofar) : Type 0 where
   instances : AreAll (λ i. i < length st.design.instances) (names_in st.design)
   different : AreDifferent (names_in st.design)
@@ -373,7 +373,7 @@ answered_named ms top sound =
     answered_keeps ms top AreNamed HasPortAliases (named_steps (base_of ms top) ms) (λ m found x n alias. absurd cc)
     (record { instances = record { signals = λ x h. absurd h; memories = λ x h. absurd h; constants = λ x h. absurd h; aliases = λ x h. absurd h }; different = none_named }) sound
 
--- no name stands twice in the design
+-- no name is twice in the design
 pub record HasDistinctNames (d : Design) : Type 0 where
   pub names : AreDistinct (names_of d)
 

@@ -46,7 +46,7 @@ pub known_below : (base : ℕ) (ms : List Module) (depth : ℕ) (i : Instantiati
 known_below base ms depth i before st here x k m o under =
     aliases_match st.design.signals st.design.memories base (context base i before) x.place k m o (scope_matches base i before st here.known here.continues)
 
--- the numbers of the signals that a name stands for
+-- the numbers of the signals that a name means
 pub number_in : (xs : List Signal) (ys : List Memory) (e : Option Entry) (y : ℕ) → EntryMatches xs ys e → In y (signal_numbers e) → y < length xs
 number_in xs ys (Some (a_signal s)) y h (inl e) = subst (λ z. z < length xs) e h.number
 number_in xs ys (Some (a_signal s)) y h (inr k) = absurd k
@@ -197,7 +197,7 @@ woken_steps base ms = record {
 answered_woken : (ms : List Module) (top : List ℕ) → IsSound ms top → IsWoken (elaborated ms top)
 answered_woken ms top sound = answered_keeps ms top IsWoken Known (woken_steps (base_of ms top) ms) (λ m found. known_top top m) (record { aliases = λ a h. absurd h; processes = λ x h. absurd h }) sound
 
--- what a process of the design has, the one that stands for no process has
+-- what holds of each process of the design, and of the one that represents no process, holds of the process with any number
 pub at_process : (P : Process → Type 0) (xs : List Process) (p : ℕ) → ((x : Process) → In x xs → P x) → P no_process → P (slice_index_or xs p no_process)
 at_process P [] p h none_of = none_of
 at_process P (x ∷ xs) zero h none_of = h x (inl refl)

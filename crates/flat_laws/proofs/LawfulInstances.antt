@@ -20,11 +20,11 @@ use Rattle.flat_laws.proofs.LawfulPaths.{found_in, opening_parts}
 use Rattle.flat_laws.proofs.Members.{in_append, in_left, in_right, in_map, in_flat_map}
 use Rattle.flat_laws.proofs.Steps.{Walk, Progress, progress, Kept, Here, IsBelow, inner_of, ones_in, ones_of}
 
--- the path is this one, or goes on behind a dot
+-- the path is this one, or goes on after a dot
 abbrev IsUnder : List ℕ → List ℕ → Type 0
 IsUnder path x = (x ≡ path) ⊎ ((rest : List ℕ) × (x ≡ dotted path rest))
 
--- what may stand behind a name in a path
+-- what may follow a name in a path
 abbrev IsEnd : List ℕ → Type 0
 IsEnd s = (s ≡ []) ⊎ ((rest : List ℕ) × (s ≡ 46 ∷ rest))
 
@@ -54,7 +54,7 @@ one_name_only (x ∷ a) (y ∷ b) s t h k l m e =
     let rest : a ≡ b = one_name_only a b s t (no_dot_rest x a h) (no_dot_rest y b k) l m tails in
     cc
 
--- what stands under a path and a name, as the path, the name and an end
+-- what is under a path and a name, as the path, the name and an end
 under_name : (path name x : List ℕ) → IsUnder (dotted path name) x → (s : List ℕ) × IsEnd s × (x ≡ path ++ 46 ∷ (name ++ s))
 under_name path name x (inl e) = ([], inl refl, e ∙ ap (λ z. path ++ 46 ∷ z) (sym (append-nil name)))
 under_name path name x (inr k) = (46 ∷ k.0, inr (k.0, refl), k.1 ∙ append_assoc path (46 ∷ name) (46 ∷ k.0))
@@ -67,7 +67,7 @@ same_name path a b x h k l m =
     let rest : a ++ p.0 ≡ b ++ q.0 = cc in
     one_name_only a b p.0 q.0 h k p.1 q.1 rest
 
--- what stands under a name stands under the path before it
+-- what is under a name is under the path before it
 under_path : (path name x : List ℕ) → IsUnder (dotted path name) x → IsUnder path x
 under_path path name x h = let p = under_name path name x h in inr (name ++ p.0, p.2)
 
@@ -83,12 +83,12 @@ path_of x = x.path
 abbrev HavePaths : Sofar → Type 0
 HavePaths st = AreDistinct (map path_of st.design.instances)
 
--- no instance stands under the path of one that is to be opened, and its module is one of these
+-- no instance is under the path of one that is to be opened, and its module is one of these
 record IsNew (ms : List Module) (i : Instantiation) (st : Sofar) : Type 0 where
   module_in : In i.of_module ms
   new : (x : Instance) → In x st.design.instances → IsUnder i.path x.path → ⊥
 
--- what was added since an instance was opened stands under its path, with the names so far
+-- what was added since an instance was opened is under its path, with the names so far
 abbrev AreUnder : Instantiation → Sofar → Progress → Sofar → Type 0
 AreUnder i before r now =
     (x : Instance) → In x now.design.instances → In x before.design.instances ⊎ ((x.path ≡ i.path) ⊎ ((o : One) × In o r.ones × IsUnder (dotted i.path (one_name o)) x.path))
@@ -119,7 +119,7 @@ more_names i before now l n os more h x k = wider (h x k)
     wider (inr (inl e)) = inr (inl e)
     wider (inr (inr m)) = inr (inr (m.0, in_left m.0 os more m.1, m.2))
 
--- what an instance below added stands under its name
+-- what an instance below added is under its name
 paths_inside : (i j : Instantiation) (before at now : Sofar) (l n : ℕ) (os : List One) (o : One) (last : Progress) → j.path ≡ dotted i.path (one_name o) → AreUnder i before (progress l n os) at → AreUnder j at last now → AreUnder i before (progress l n (os ++ o ∷ [])) now
 paths_inside i j before at now l n os o last path outer inner x k = by_place (inner x k)
   where
@@ -131,7 +131,7 @@ paths_inside i j before at now l n os o last path outer inner x k = by_place (in
     by_place (inr (inl e)) = here (inl e)
     by_place (inr (inr h)) = here (under_path j.path (one_name h.0) x.path h.2)
 
--- no dot stands in the names of the instances of a module
+-- there is no dot in the names of the instances of a module
 plain_names : (ms : List Module) → AreOfTokens ms → (m : Module) → In m ms → (o : One) → In o (ones_of m.items) → has_dot (one_name o) ≡ false
 plain_names ms tokens m m_in o h = let k = in_flat_map (λ (x : Item). ones_in x.form) o m.items h in by_form k.0 k.1 k.0.form refl k.2
   where
@@ -146,13 +146,13 @@ plain_names ms tokens m m_in o h = let k = in_flat_map (λ (x : Item). ones_in x
     by_form x x_in (always_item y v) is l = absurd l
     by_form x x_in (initial_item k) is l = absurd l
 
--- the name of one that comes next is none of those so far
+-- the name of one that comes next is not among those so far
 next_differs : (os later : List One) (o p : One) → AreDistinct (map one_name (os ++ o ∷ later)) → In p os → one_name p ≡ one_name o → ⊥
 next_differs [] later o p h k e = k
 next_differs (q ∷ os) later o p h (inl same) e = h.0 (subst (λ z. In z (map one_name (os ++ o ∷ later))) (sym (ap one_name same ∙ e)) (in_map_back one_name o (os ++ o ∷ later) (in_right o os (o ∷ later) (inl refl))))
 next_differs (q ∷ os) later o p h (inr k) e = next_differs os later o p h.1 k e
 
--- so an instance that comes next stands under a new path
+-- so an instance that comes next is under a new path
 next_new : (base : ℕ) (ms : List Module) → AreOfTokens ms → (depth : ℕ) (i : Instantiation) (before st : Sofar) → Here (λ depth. IsNew ms) depth i before st → (l n : ℕ) (os : List One) → AreUnder i before (progress l n os) st →
     (x : Item) (k : InstanceItem) (m : Module) (o : One) → IsBelow base ms i before x k m o → (later : List One) → ones_of i.of_module.items ≡ os ++ o ∷ later → IsNew ms (inner_of (context base i before) x.place k m o) st
 next_new base ms tokens depth i before st here l n os added x k m o under later whole = record {
@@ -192,7 +192,7 @@ answered_apart ms top tokens sound =
     answered_walks ms top HavePaths (λ depth. IsNew ms) AreUnder (paths_walk (base_of ms top) ms tokens)
     (λ m found. record { module_in = found_in (λ z. bytes_eq z.name.name top) ms m found; new = λ x h. absurd h }) tt sound
 
--- no path stands twice among the instances
+-- no path is twice among the instances
 pub record HasDistinctPaths (d : Design) : Type 0 where
   pub instance_paths : AreDistinct (map (λ i. i.path) d.instances)
 

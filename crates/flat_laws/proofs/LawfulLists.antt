@@ -1,4 +1,4 @@
--- The signals, memories, constants and processes of a design that is answered stand in its instances, and have sound ranges.
+-- The signals, memories, constants and processes of a design that is answered are in its instances, and have sound ranges.
 use Rattle.std.proofs.Common.{◌≡◌, ◌⊎◌, inl, inr, ℕ, ◌+◌, ◌<◌, ◌≤◌, ◌==◌, Bool, true, false, ◌&&◌, ◌||◌, nat_lt, nat_le, List, [], ◌∷◌, Option, Some, None, Ok, refl, sym, ap, subst, length, map, arith, length-append}
 use Rattle.std.specs.List.{list_all, filter, flat_map}
 use Rattle.std.proofs.lemmas.Bool.{false≢true, and_parts, lt-ltb, le-leb, eq-eqb}
@@ -44,7 +44,7 @@ pub record MemoryIn (count : ℕ) (m : Memory) : Type 0 where
   pub bits : HasBits m.width m.high m.low m.ranged
   pub words : nat_le (span m.first m.last) 65536 ≡ true
 
--- each stands in an instance
+-- each is in an instance
 pub record IsRanged (st : Sofar) : Type 0 where
   pub signals : (s : Signal) → In s st.design.signals → SignalIn (length st.design.instances) s
   pub memories : (m : Memory) → In m st.design.memories → MemoryIn (length st.design.instances) m
@@ -189,7 +189,7 @@ answered_ranged ms top sound =
     answered_keeps ms top IsRanged (λ depth i st. Unit {0}) (ranged_steps (base_of ms top) ms) (λ m found. tt)
     (record { signals = λ s h. absurd h; memories = λ m h. absurd h; constants = λ c h. absurd h; processes = λ x h. absurd h }) sound
 
--- each signal, memory, constant and process stands in an instance, and has its bits
+-- each signal, memory, constant and process is in an instance, and has its bits
 pub record AreRanged (d : Design) : Type 0 where
   pub signals : list_all (law.is_signal d) d.signals ≡ true
   pub memories : list_all (law.is_memory_of d) d.memories ≡ true

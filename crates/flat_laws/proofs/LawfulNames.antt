@@ -1,4 +1,4 @@
--- No name of an instance is empty, and none stands for what only constants are told from.
+-- No name of an instance is empty, and no name has the entry that is used only where constants are needed.
 use Rattle.std.proofs.Common.{◌≡◌, ◌⊎◌, inl, inr, ℕ, Bool, true, false, cond, if◌then◌else◌, List, [], ◌∷◌, ◌++◌, Option, Some, None, refl, sym, ap, ◌∙◌, subst, map}
 use Rattle.std.specs.List.{flat_map}
 use Rattle.std.specs.Prelude.{bytes_eq, is_none, unwrap_or}
@@ -118,7 +118,7 @@ scope_not_empty i s k plain =
     either : (a b : Option Entry) → a ≡ None → b ≡ None → entry_or a (entry_or b None) ≡ None
     either a b h l = rw (h, l) refl
 
--- what only constants are told from
+-- the entry that is used only where constants are needed
 abbrev pub is_no_constant_entry : Option Entry → Bool
 is_no_constant_entry (Some no_constant) = true
 is_no_constant_entry _ = false

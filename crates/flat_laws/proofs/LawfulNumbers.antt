@@ -76,7 +76,7 @@ AreOnce {A} number parts xs =
     (p q : ℕ) (x y : A) → In x (parts (slice_index_or xs p no_process)) → In y (parts (slice_index_or xs q no_process)) →
     instance_of (slice_index_or xs p no_process) ≡ instance_of (slice_index_or xs q no_process) → number x ≡ number y → (p ≡ q) × (x ≡ y)
 
--- where a process stands in a list with one more
+-- where a process is in a list with one more
 record IsBefore (xs : List Process) (m : Process) (p : ℕ) : Type 0 where
   same : slice_index_or (xs ++ m ∷ []) p no_process ≡ slice_index_or xs p no_process
   is_in : In (slice_index_or xs p no_process) xs
@@ -119,7 +119,7 @@ once_added {A = A} number parts xs m low high nothing all here earlier p q x y h
     by_places (inl a) (inr (inr b)) = absurd (nothing y (subst (λ z. In y (parts z)) b.same k))
     by_places (inr (inl a)) (inr (inr b)) = absurd (nothing y (subst (λ z. In y (parts z)) b.same k))
 
--- each process stands in an instance, and no number stands twice in one
+-- each process is in an instance, and no number is twice in one instance
 record AreNumbered (st : Sofar) : Type 0 where
   instances : (x : Process) → In x st.design.processes → instance_of x < length st.design.instances
   lines : AreOnce line_number lines_of st.design.processes
@@ -186,7 +186,7 @@ numbered_opened i st h = record {
   added = λ x k. inl (record { is_in = k; instance = h.instances x k });
 }
 
--- what an instance below added stands in instances behind
+-- what an instance below added is in later instances
 numbered_inside : (i j : Instantiation) (before at now : Sofar) (r last : Progress) → length before.design.instances < length at.design.instances → AreBelow i before r at → AreBelow j at last now → AreBelow i before r now
 numbered_inside i j before at now r last less outer inner x k = by_place (inner x k)
   where
@@ -221,7 +221,7 @@ answered_once ms top sound =
     answered_walks ms top AreNumbered (λ depth i st. Unit {0}) AreBelow (numbered_walk (base_of ms top) ms) (λ m found. tt)
     (record { instances = λ x h. absurd h; lines = λ p q x y h k e same. absurd h; nodes = λ p q x y h k e same. absurd h }) sound
 
--- no number stands twice in an instance of the design
+-- no number is twice in an instance of the design
 pub record HasNumbersOnce (d : Design) : Type 0 where
   pub lines_once : (p q : ℕ) (x y : LineAt) → In x (lines_of (process_at d p)) → In y (lines_of (process_at d q)) → instance_of (process_at d p) ≡ instance_of (process_at d q) → x.line ≡ y.line → (p ≡ q) × (x ≡ y)
   pub nodes_once : (p q : ℕ) (x y : NodeAt) → In x (nodes_of (process_at d p)) → In y (nodes_of (process_at d q)) → instance_of (process_at d p) ≡ instance_of (process_at d q) → x.node ≡ y.node → (p ≡ q) × (x ≡ y)

@@ -109,7 +109,7 @@ none_taken : (z : ℤ) (w : ℕ) → w ≡ 1 → z -ℤ pos (w - 1) ≡ z
 none_taken (pos a) w e = omega (arith, ints)
 none_taken (negsuc a) w e = omega (arith, ints)
 
--- how far above the lowest bit an index stands, where indexes fall from left to right, or rise
+-- how far above the lowest bit an index is, where indexes fall from left to right, or rise
 abbrev offset_of : Range → Bool → ℤ → ℤ
 offset_of r falls i = if falls then i -ℤ pos r.low else pos r.low -ℤ i
 

@@ -42,7 +42,7 @@ no_dots (b ∷ bs) h = by_test (b == 46) (list_any (λ c. c == 46) bs) refl h (n
 dotted_dots : (x y : List ℕ) → dots (dotted x y) ≡ dots x + 1 + dots y
 dotted_dots x y = omega (arith, sum_by-append (λ c. cond (c == 46) 1 0) x (46 ∷ y), sum_by-cons (λ c. cond (c == 46) 1 0) 46 y)
 
--- the path of what stands in this instance is short
+-- the path of what is in this instance is short
 pub record PathFits (is : List Instance) (n : ℕ) (x : List ℕ) : Type 0 where
   pub instance : n < length is
   pub short : length ((slice_index_or is n no_instance).path ++ 46 ∷ x) ≤ 256

@@ -1,4 +1,4 @@
--- A port that is joined by an assignment has a signal of its own, which no name around the instance stands for.
+-- A port that is joined by an assignment has a signal of its own, which no name around the instance means.
 use Rattle.std.proofs.Common.{◌≡◌, ℕ, ◌+◌, ◌≤◌, Bool, true, false, cond, if◌then◌else◌, List, [], ◌∷◌, ◌++◌, Option, Some, None, refl, sym, ap, ◌∙◌, subst, inl, inr, length, map, arith, append_assoc, slice_index_or}
 use Rattle.std.specs.List.{filter, flat_map}
 use Rattle.std.specs.Prelude.{bytes_eq, unwrap_or}
@@ -91,7 +91,7 @@ declared_signal (Some a_loop_variable) b e h k = absurd h
 declared_signal (Some an_instance) b e h k = absurd h
 declared_signal (Some no_constant) b e h k = absurd h
 
--- a name of an instance below the top that is no alias stands for a signal of the instance
+-- a name of an instance below the top that is no alias means a signal of the instance
 scope_own : (i : Instantiation) (before now : Sofar) (x : List ℕ) (e : SignalEntry) → i.is_top ≡ false → Continues (opened i before) now → alias_number i.aliases x ≡ None →
     look_up (scope_of i (length before.design.signals) (length before.design.memories)) x ≡ Some (a_signal e) → IsOwn now.design.signals (length before.design.signals) e
 scope_own i before now x e below h no_alias found =

@@ -160,7 +160,7 @@ bit_offset d c x fixed h =
     subst (λ o. (not fixed || has_cell (bit_writes_option c.thing (signal_at d c.thing).width o (fill 1 X)) c) ≡ true) (offset_same (signal_range d c.thing) (index (head x).signed (value d blank x))) h
 
 module _ (d : Design) (base : ℕ) (g : Scope) (ws : List Writing) (c : Cell) (h : IsPlaced d base g) (b : IsWrittenBit d ws c) where
-  -- an expression without faults, of whose reads none is told, does not read the bit
+  -- an expression without faults, of which no read is reported, does not read the bit
   abbrev Unread : Expr → ℕ → Type 0
   Unread e n = faults g e ≡ [] → self_reads g ws e ≡ [] → may_read d (term base g e n (shape g e)) c ≡ true → ⊥
 

@@ -48,7 +48,7 @@ pub record MatchesMemory (ys : List Memory) (m : MemoryEntry) : Type 0 where
   pub width : (slice_index_or ys m.number no_memory).width ≡ range_width m.range
   pub signed : (slice_index_or ys m.number no_memory).signed ≡ m.signed
 
--- what a name stands for is in the lists
+-- what a name means is in the lists
 abbrev pub EntryMatches : List Signal → List Memory → Option Entry → Type 0
 EntryMatches xs ys (Some (a_signal s)) = MatchesSignal xs s
 EntryMatches xs ys (Some (a_memory m)) = MatchesMemory ys m
@@ -242,7 +242,7 @@ binding_kept p ((w, e) ∷ bs) x = first (p w) ∙ by_tests (bytes_eq x w) (p w)
     by_tests false false true h k = k
     by_tests false false false h k = k
 
--- the parameters that names of an instance stand for
+-- the parameters that names of an instance mean
 pub own_constant : (os : List Override) (m : Module) (x : List ℕ) → IsConstantOrFaulty (binding_of (own_constants os m) x)
 own_constant os m x = subst IsConstantOrFaulty (sym (binding_kept (names_parameter (declared os m)) (constants os m) x)) (by_test (names_parameter (declared os m) x))
   where
@@ -265,7 +265,7 @@ or_nothing : (xs : List Signal) (ys : List Memory) (b : Option Entry) → EntryM
 or_nothing xs ys None k = tt
 or_nothing xs ys (Some e) k = k
 
--- in an instance that was opened, what names stand for is in the design
+-- in an instance that was opened, what names mean is in the design
 pub scope_matches : (base : ℕ) (i : Instantiation) (before now : Sofar) → HasAliases before.design.signals i → Continues (opened i before) now →
     ScopeMatches now.design.signals now.design.memories (context base i before).scope
 scope_matches base i before now known h x =

@@ -1,4 +1,4 @@
--- Where no fault is met in the declarations of an instance, no name in it stands for something faulty.
+-- Where no fault is met in the declarations of an instance, no name in it means something faulty.
 use Rattle.std.proofs.Common.{◌≡◌, ◌⊎◌, inl, inr, ℕ, ◌+◌, Bool, true, false, not, ◌&&◌, ◌||◌, cond, if◌then◌else◌, List, [], ◌∷◌, ◌++◌, Option, Some, None, refl, sym, ap, ◌∙◌, subst, map}
 use Rattle.std.specs.List.{flat_map, list_any}
 use Rattle.std.specs.Prelude.{bytes_eq, is_none, unwrap_or}
@@ -23,7 +23,7 @@ use Rattle.flat_laws.proofs.LawfulEvents.{each_empty}
 use Rattle.flat_laws.proofs.LawfulScope.{same_bytes, bytes_same, binding_kept}
 use Rattle.flat_laws.proofs.Members.{in_append, in_left, in_right, in_map, in_flat_map, in_flat_map_back}
 
--- no name stands for something faulty
+-- no name means something faulty
 pub record IsSoundScope (g : Scope) : Type 0 where
   pub sound : (x : List ℕ) → is_faulty_entry (look_up g x) ≡ false
 
@@ -223,7 +223,7 @@ parameter_bound others os sofar [] p h = absurd h
 parameter_bound others os sofar (q ∷ ps) p (inl e) = stays_bound others os (with_param others os sofar q) ps p.name.name (subst (λ z. is_none (binding_of (with_param others os sofar q) z.name.name) ≡ false) e (with_param_here others os sofar q))
 parameter_bound others os sofar (q ∷ ps) p (inr h) = parameter_bound others os (with_param others os sofar q) ps p h
 
--- what holds of the entry of each declaration holds of what a name stands for
+-- what holds of the entry of each declaration holds of what a name means
 pub entries_all : (P : Option Entry → Type 0) (aliases : PortAliases) (m : Module) (s k : ℕ) (ds : List Declaration) (x : List ℕ) → P None → ((d : Declaration) → In d ds → x ≡ d.name.name → (s k : ℕ) → P (Some (declared_entry aliases m s k d))) → P (binding_of (entries aliases m s k ds) x)
 entries_all P aliases m s k [] x none_of each = none_of
 entries_all P aliases m s k (d ∷ ds) x none_of each = by_name (entries_all P aliases m (s + one_if (is_own aliases m d)) (k + one_if (is_memory d)) ds x none_of (λ y h. each y (inr h))) (bytes_eq x d.name.name) refl
@@ -248,7 +248,7 @@ none_passes p [] x h k = absurd k
 none_passes p (y ∷ ys) x h (inl e) = subst (λ z. p z ≡ false) e (neither (p y) (list_any p ys) h).0
 none_passes p (y ∷ ys) x h (inr k) = none_passes p ys x (neither (p y) (list_any p ys) h).1 k
 
--- in an instance whose declarations have no fault no name stands for something faulty
+-- in an instance whose declarations have no fault no name means something faulty
 pub scope_sound : (i : Instantiation) (s k : ℕ) → declaration_faults i.overrides i.of_module ≡ [] → IsSoundScope (scope_of i s k)
 scope_sound i s k e = record { sound = λ x. subst (λ o. is_faulty_entry (entry_or o (entry_or (binding_of (entries i.aliases m s k ds) x) None)) ≡ false) (sym (binding_kept (names_parameter ds) cs x)) (by_test x (names_parameter ds x) refl) }
   where

@@ -76,7 +76,7 @@ pub record IsContinuous (base : ℕ) (xs : List Signal) (ys : List Memory) (ms :
   pub no_self : self_faults scope to value ≡ []
   pub writings : IsPart (met_writings scope Continuous true true k to) ms
 
--- an expression that is assigned to the signal of an input, which no name beside the instance stands for
+-- an expression that is assigned to the signal of an input, which no name beside the instance means
 pub record IsInput (base : ℕ) (xs : List Signal) (ys : List Memory) (ms : List Met) (k : ℕ) (x : Process) : Type 0 where
   pub scope : Scope
   pub good : IsGoodScope xs ys scope
@@ -91,7 +91,7 @@ pub record IsInput (base : ℕ) (xs : List Signal) (ys : List Memory) (ms : List
   pub value_sound : faults scope value ≡ []
   pub writings : IsPart (met_writing (whole_writing k label port) ∷ []) ms
 
--- the signal of an output that is assigned to a target, which no name beside the instance stands for
+-- the signal of an output that is assigned to a target, which no name beside the instance means
 pub record IsOutput (base : ℕ) (xs : List Signal) (ys : List Memory) (ms : List Met) (k : ℕ) (x : Process) : Type 0 where
   pub scope : Scope
   pub good : IsGoodScope xs ys scope
@@ -270,7 +270,7 @@ block_free fs gs hs ms m h =
     let b = free_parts (met_faults fs ++ ms) (met_faults (gs ++ hs)) a.0 in
     ((free_parts (met_faults fs) ms b.0).1, (both_empty gs hs (free_faults (gs ++ hs) b.1)).0)
 
--- while ports are joined, no name of the outer scope stands for the signal of the port
+-- while ports are joined, no name of the outer scope means the signal of the port
 outer_below : (all : List Module) (base : ℕ) (i : Instantiation) (before at now : Sofar) (x : Item) (k : InstanceItem) (m : Module) (o : One) (s : SignalEntry) → Here (KnownIn all) 0 i before at → IsOwn now.design.signals (length at.design.signals) s →
     (y : List ℕ) (r : SignalEntry) → look_up (context base i before).scope y ≡ Some (a_signal r) → r.number < s.number
 outer_below all base i before at now x k m o s here own y r found =
@@ -335,7 +335,7 @@ elaborated_made all top tokens sound =
     answered_keeps all top (AreMade all (base_of all top)) (KnownIn all) (made_steps (base_of all top) all tokens)
     (λ m found. (known_top top m, found_in (λ z. bytes_eq z.name.name top) all m found)) (record { made = λ p less. absurd (omega arith) }) sound
 
--- a process by its number has a source, or is none
+-- a process by its number has a source, or is no process
 pub source_at : (all : List Module) (base : ℕ) (st : Sofar) → AreMade all base st → (p : ℕ) → Source all base st.design.signals st.design.memories st.met p (slice_index_or st.design.processes p no_process) ⊎ (slice_index_or st.design.processes p no_process ≡ no_process)
 source_at all base st h p = by_place (cases_lt p (length st.design.processes))
   where

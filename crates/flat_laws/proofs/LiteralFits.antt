@@ -1,4 +1,4 @@
--- The literals that stand in the expressions of a module have from 1 to 128 bits.
+-- The literals that are in the expressions of a module have from 1 to 128 bits.
 use Rattle.std.proofs.Common.{◌≡◌, ◌⊎◌, inl, inr, ℕ, Bool, true, false, if◌then◌else◌, List, [], Option, Some, None, refl, sym, ap, ◌∙◌, subst}
 use Rattle.std.specs.List.{flat_map}
 use Rattle.std.specs.Prelude.{bytes_eq}

@@ -1,4 +1,4 @@
--- What stands in lists that are joined, mapped or filtered.
+-- What is in lists that are joined, mapped or filtered.
 use Rattle.std.proofs.Common.{◌≡◌, sym, ◌⊎◌, inl, inr, Bool, true, false, ◌&&◌, cond, List, [], ◌∷◌, ◌++◌, refl, subst, map}
 use Rattle.std.specs.List.{list_all, filter, flat_map}
 use Rattle.std.proofs.lemmas.Bool.{false≢true, and_parts}

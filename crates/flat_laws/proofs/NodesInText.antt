@@ -1,4 +1,4 @@
--- The counted nodes of flat terms, targets and statements are those that stand in their text.
+-- The counted nodes of flat terms, targets and statements are those that are in their text.
 use Rattle.std.proofs.Common.{◌≡◌, ◌⊎◌, inl, inr, ℕ, ◌+◌, ◌-◌, ◌==◌, nat_lt, nat_le, Bool, true, false, not, ◌&&◌, ◌||◌, if◌then◌else◌, List, [], ◌∷◌, ◌++◌, refl, sym, ap, ◌∙◌, subst, append_assoc, arith}
 use Rattle.std.specs.Prelude.{codes, Option, Some, None}
 use Rattle.std.proofs.lemmas.Bool.{false≢true}
@@ -107,7 +107,7 @@ with_number n (t.concat h ts) as' k = deeper (a_node n h.place _) (node_at h.nod
 with_number n (t.repeat h c ts) as' k = deeper (a_node n h.place _) (node_at h.node (t.repeat h c ts)) (nodes_in (subterms c ++ all_subterms ts)) as' k
 with_number n (t.sign h s a) as' k = deeper (a_node n h.place _) (node_at h.node (t.sign h s a)) (nodes_in (subterms a)) as' k
 
--- what stands at the head of the term of a condition that is no operator
+-- what is at the head of the term of a condition that is no operator
 record IsPlainTerm (x : Term) (p : Place) : Type 0 where
   place : (head x).place ≡ p
   text : node_text x ≡ codes "value"

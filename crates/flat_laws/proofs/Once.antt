@@ -8,7 +8,7 @@ pub record Once {A : Type 0} (number : A → ℕ) (low high : ℕ) (xs : List A)
   pub within : (x : A) → In x xs → (low ≤ number x) × (number x < high)
   pub same : (x y : A) → In x xs → In y xs → number x ≡ number y → x ≡ y
 
--- one range stands before the other, and both within a third
+-- one range is before the other, and both within a third
 pub record AreInOrder (low a b c d high : ℕ) : Type 0 where
   pub first : low ≤ a
   pub second : low ≤ c
@@ -31,7 +31,7 @@ once_one {A = A} number low high x from below = record { within = within; same =
     same y z (inl e) (inr h) k = absurd h
     same y z (inr h) f k = absurd h
 
--- what stands among these
+-- what is among these
 pub once_among : {A : Type 0} (number : A → ℕ) (low high : ℕ) (xs ys : List A) → ((x : A) → In x xs → In x ys) → Once number low high ys → Once number low high xs
 once_among number low high xs ys among h = record { within = λ x k. h.within x (among x k); same = λ x y k l e. h.same x y (among x k) (among y l) e }
 

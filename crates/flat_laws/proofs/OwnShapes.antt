@@ -85,7 +85,7 @@ bit_shape g (sign_cast p s a) h = refl
 bit_shape g (parentheses p a) h = refl
 
 module _ (d : Design) (base : ℕ) (base_is : base ≡ length d.signals) where
-  -- memories are numbered behind the signals
+  -- memories are numbered after the signals
   pub memory_here : (k : ℕ) → memory_at d (base + k) ≡ slice_index_or d.memories k no_memory
   memory_here k =
       let above : length d.signals ≤ base + k = omega arith in

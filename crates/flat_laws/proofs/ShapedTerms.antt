@@ -133,7 +133,7 @@ counted_own d n (t.concat h ts) = (refl, refl)
 counted_own d n (t.repeat h k ts) = (refl, refl)
 counted_own d n (t.sign h x a) = (refl, refl)
 
--- what has its shape in the context that it gives itself stands alone
+-- what has its shape in the context that it gives itself is alone
 pub shaped_alone : (d : Design) (s : Shape) (x : Term) → HasShape d s x → is_shaped d s.width s.signed x ≡ true → is_alone d x ≡ true
 shaped_alone d s x own h = subst (λ w. is_shaped d w (own_sign d x) x ≡ true) (sym own.width) (subst (λ b. is_shaped d s.width b x ≡ true) (sym own.signed) h)
 
@@ -144,7 +144,7 @@ condition_alone d true n c h =
     subst (λ w. is_shaped d w (own_sign d (counted_as n (c (n + 1)))) (counted_as n (c (n + 1))) ≡ true) (sym own.0)
     (subst (λ b. is_shaped d (own_width d (c (n + 1))) b (counted_as n (c (n + 1))) ≡ true) (sym own.1) (counted_shaped d (own_width d (c (n + 1))) (own_sign d (c (n + 1))) n (c (n + 1)) ∙ h (n + 1)))
 
--- what stands before a select has no fault, unless it is a memory; nor has its index
+-- what comes before a select has no fault, unless it is a memory; nor has its index
 pub bit_free : (g : Scope) (of : Expr) (i : Expr) (is : List Fault) → none (bit_faults g of (faults g of) i is) ≡ true → (none is ≡ true) × (is_memory_name g of ≡ false → none (faults g of) ≡ true)
 bit_free g of i is h = by_test (is_memory_name g of) (look_up g (base_name of).name) h
   where

@@ -1,4 +1,4 @@
--- The line points of a flat statement are those that stand in its text, each with a number of its own.
+-- The line points of a flat statement are those that are in its text, each with a number of its own.
 use Rattle.std.proofs.Common.{◌⊎◌, inl, inr, ℕ, ◌+◌, List, [], ◌∷◌, ◌++◌, arith}
 use Rattle.four_state.specs.Vector.{Vector}
 use Rattle.design_model.specs.Design.{In}
@@ -15,7 +15,7 @@ use Rattle.flat_design.specs.Scope.{Scope}
 use Rattle.flat_laws.proofs.Members.{in_append, in_left, in_right}
 use Rattle.flat_laws.proofs.Once.{Once, once_none, once_one, once_join}
 
--- the line points that stand in a statement, of a loop once, where they are numbered from l on
+-- the line points that are in a statement, of a loop once, where they are numbered from l on
 abbrev mutual
   pub text_lines : Statement → ℕ → List LineAt
   text_lines (sequential_block p ss) l = all_text_lines ss l
@@ -61,7 +61,7 @@ mutual
   item_lines_once (case_item labels s is) l =
       once_join line_number l l (l + lines s) (l + lines s) (l + lines s + item_lines is) _ (text_lines s l) _ (omega arith) (lines_once s l) (item_lines_once is (l + lines s))
 
--- each of the first list stands in the second
+-- each of the first list is in the second
 abbrev pub Among : {A : Type 0} → List A → List A → Type 0
 Among {A} xs ys = (x : A) → In x xs → In x ys
 

@@ -1,4 +1,4 @@
--- The counted nodes that stand in the text of an expression or a statement, each with a number of its own.
+-- The counted nodes that are in the text of an expression or a statement, each with a number of its own.
 use Rattle.std.proofs.Common.{◌≡◌, ℕ, ◌+◌, Bool, true, false, if◌then◌else◌, List, [], ◌∷◌, ◌++◌, refl, arith}
 use Rattle.std.specs.Prelude.{bytes_eq, codes, Some}
 use Rattle.std.proofs.lemmas.Bool.{false≢true}
@@ -78,7 +78,7 @@ node_once : (test : Bool) (n : ℕ) (p : Place) (op : List ℕ) → Once node_nu
 node_once true n p op = once_one node_number n (n + 1) (a_node n p op) (omega arith) (omega arith)
 node_once false n p op = once_none node_number n _
 
--- two and three that are numbered one behind the other
+-- two and three that are numbered one after the other
 pub two_once : (xs ys : List NodeAt) (n a b : ℕ) → Once node_number n (n + a) xs → Once node_number (n + a) (n + a + b) ys → Once node_number n (n + (a + b)) (xs ++ ys)
 two_once xs ys n a b h k = once_join node_number n n (n + a) (n + a) (n + a + b) (n + (a + b)) xs ys (omega arith) h k
 
@@ -135,7 +135,7 @@ same_in_turns h v w g x = by_test (bytes_eq x (base_name h.name).name)
     by_test true = refl
     by_test false = refl
 
--- the value that stands for that of some turn
+-- the value that represents that of some turn
 abbrev pub some_value : Vector
 some_value = record { bits = X ∷ []; signed = true }
 

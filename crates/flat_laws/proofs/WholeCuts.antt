@@ -96,7 +96,7 @@ whole-cut w (negsuc n) h =
 pub index-cut : (w : ℕ) (z : ℤ) → Fits w z → index true (cut (suc w) z) ≡ Some z
 index-cut w z h = rw (known-cut (suc w) z, whole-cut w z h) refl
 
--- known bits are extended, or cut, as the whole number that they stand for
+-- known bits are extended, or cut, as the whole number that they represent
 fit_zeros : (w : ℕ) → fit w Zero [] ≡ low_bits w 0
 fit_zeros zero = refl
 fit_zeros (suc w) = ap (λ bs. Zero ∷ bs) (fit_zeros w)

@@ -101,7 +101,7 @@ module _ (L : Language) (G : Grammar L) (T : Tables L) (P : Passes L G T) where
       same_bind L (reads L G d G.source i) (reads L G (d + k) G.source i) (ended L G) (ended L G)
       (same L G.begins (λ h. nat_le h d) (λ h. nat_le h (d + k)) (le_wider k d) (phrase L G d) (phrase L G (d + k)) (phrase_same k d) G.source i) (λ x. inl refl)
 
-  -- ---- what stands behind a fault
+  -- ---- what comes after a fault
 
   pub phrase_past : (d n : ℕ) (p : L.Phrase) (i : Tokens L) → length i ≤ n → Past L n (phrase L G d p i)
   unfolding phrase
@@ -144,7 +144,7 @@ module _ (L : Language) (G : Grammar L) (T : Tables L) (P : Passes L G T) where
         (local L x p q G.begins (λ h. nat_le h d) (phrase L G d) (phrase_past d (length p)) (phrase_shrinks L G T P d) (phrase_local x p q d) G.source P.source_steps (c ++ x ∷ p) (c ++ x ∷ q) (shared_after L x p q c))
         e lt (source_complete L G T P d (c ++ x ∷ q) v s)
 
-    -- a part that nests too deep as is known at x does so whatever stands behind x
+    -- a part that nests too deep as is known at x does so whatever follows x
     deep_again : (a b : Outcome L G.Tree) (place : L.Place) (n : ℕ) → Agrees L x p q a b → (a >>= ended L G) ≡ Err (record { kind = too_deep place; left = n }) → length p < n
         → (b >>= ended L G) ≡ Err (record { kind = too_deep place; left = n - length p + length q })
     deep_again (Ok w) b place n s e lt = let k = ended_left w.0 w.1 (record { kind = too_deep place; left = n }) e in absurd (kinds_differ place (ap (λ (z : Fault L). z.kind) (sym k.1)))
@@ -160,7 +160,7 @@ module _ (L : Language) (G : Grammar L) (T : Tables L) (P : Passes L G T) where
         (local L x p q G.begins (λ h. nat_le h d) (phrase L G d) (phrase_past d (length p)) (phrase_shrinks L G T P d) (phrase_local x p q d) G.source P.source_steps (c ++ x ∷ p) (c ++ x ∷ q) (shared_after L x p q c))
         e lt
 
-  -- ---- what stands before a fault
+  -- ---- what comes before a fault
 
   pub record Before (i : Tokens L) (f : Fault L) : Type 0 where
     pub front : Tokens L

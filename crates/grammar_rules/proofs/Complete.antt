@@ -1,4 +1,4 @@
--- What is spelled is read, where the next token tells which way to go.
+-- What is spelled is read, where the next token says which way to go.
 use Rattle.std.proofs.Common.{◌≡◌, ℕ, zero, suc, ◌<◌, ◌≤◌, Bool, true, false, cond, nat_eq, List, [], ◌∷◌, ◌++◌, length, Some, None, Ok, refl, sym, ap, subst, ◌∙◌, ◌⊎◌, inl, inr, arith}
 use Rattle.std.specs.Prelude.{not, ◌&&◌, ◌||◌}
 use Rattle.grammar_rules.specs.Rule.{Language, Tokens, Rule, one, empty, both, either, many, maybe, grow, made, nest, Growth, Ends, next, member, nullable, first, Outcome, take_one, repeat, grow_by, read, ◌>>=◌, Chain, Grown, Spells}
@@ -8,11 +8,11 @@ use Rattle.grammar_rules.proofs.Members.{and_true, not_true, both_ways, member-l
 
 module _ (L : Language) where
   module _ (begins follow : L.Phrase → List ℕ) where
-    -- the tokens that may come next L where h stands, with one of F behind it
+    -- the tokens that may come next L where h is, with one of F after it
     abbrev pub ahead : {A : Type 0} → Rule L A → List ℕ → List ℕ
     ahead h F = cond (nullable h) (first L begins h ++ F) (first L begins h)
 
-    -- the next L token tells which way to go, with one of F behind the rule
+    -- the next L token says which way to go, with one of F after the rule
     abbrev pub is_told : {A : Type 0} → Rule L A → List ℕ → Bool
     is_told (one x xs) F = true
     is_told empty F = true
@@ -43,7 +43,7 @@ module _ (L : Language) where
 
   module _ (begins : L.Phrase → List ℕ) (fits : ℕ → Bool) (R : (p : L.Phrase) → L.Value p → Tokens L → Tokens L → Type 0)
       (begun : (p : L.Phrase) (v : L.Value p) (i o : Tokens L) → R p v i o → member (next L i) (begins p) ≡ true) where
-    -- the first token is one that may come first, or there is none
+    -- the first token is one that may come first, or there is no token
     abbrev pub Starts : {A : Type 0} → Rule L A → Tokens L → Tokens L → Type 0
     Starts g i o = (member (next L i) (first L begins g) ≡ true) ⊎ ((nullable g ≡ true) × (i ≡ o))
 
@@ -143,7 +143,7 @@ module _ (L : Language) where
         let more = chain_found g F z d h n vs s.0 o (omega arith) s.2 f in
         rw (t, e, more) refl
 
-    -- what may stand behind a part by which a value has grown
+    -- what may follow a part by which a value has grown
     pub next_behind : {A B : Type 0} (x : Bool) (w : Growth L A) (f : A → B → A) → Ends x w f → (h : Rule L B) (F : List ℕ) → nullable h ≡ false → (a : A) (b : B) (bs : List B) (v : A) (m o : Tokens L)
         → Grown fits w f (f a b) bs v → Chain (Spells L fits R h) bs m o → member (next L o) F ≡ true → member (next L m) (cond x (first L begins h ++ F) F) ≡ true
     next_behind true w f e h F z a b bs v m o g s k = chain_next h F z bs m o s k

@@ -13,7 +13,7 @@ use Rattle.grammar_rules.proofs.Words.{grow_fit, opens}
 use Rattle.grammar_rules.proofs.Viable.{all_fit, here, refused}
 
 module _ (L : Language) where
-  -- where a fault of a part that nests too deep stands
+  -- where a fault of a part that nests too deep is
   abbrev pub Known : (Tokens L → L.Place → Type 0) → Wrong L → ℕ → Type 0
   Known X unexpected n = Unit {0}
   Known X (too_deep place) n = (o : Tokens L) × X o place × (length o ≡ n)
@@ -53,7 +53,7 @@ module _ (L : Language) where
 
   -- ---- what grows
 
-  -- what stands behind a value that may grow: a part that exceeds the limits, or one that the value is too high for
+  -- what follows a value that may grow: a part that exceeds the limits, or one that the value is too high for
   abbrev pub Behind : {A B : Type 0} → (fits : ℕ → Bool) → Growth L A → (Tokens L → Tokens L → L.Place → Type 0) → (B → Tokens L → Tokens L → Type 0) → A → Tokens L → Tokens L → L.Place → Type 0
   Behind fits w X T v m o place = ((fits (w.height v) ≡ true) × X m o place) ⊎ ((m ≡ o) × ((fits (w.height v) ≡ false) × (w.deepest v ≡ place) × Begins L T m))
 

@@ -15,13 +15,13 @@ module _ (L : Language) where
   abbrev pub deep_at : {A : Type 0} → L.Place → Tokens L → Outcome L A
   deep_at place o = fault_at L (too_deep place) o
 
-  -- where one of these tokens comes behind values that begin with them, one comes next
+  -- where one of these tokens comes after values that begin with them, one comes next
   pub chain_ahead : {A : Type 0} (S : A → Tokens L → Tokens L → Type 0) (ks : List ℕ) → ((v : A) (i o : Tokens L) → S v i o → member (next L i) ks ≡ true)
       → (vs : List A) (i m : Tokens L) → Chain S vs i m → member (next L m) ks ≡ true → member (next L i) ks ≡ true
   chain_ahead S ks h [] i m s t = ap (λ (u : Tokens L). member (next L u) ks) s ∙ t
   chain_ahead S ks h (v ∷ vs) i m s t = h v i s.0 s.1
 
-  -- what may stand behind a part by which a value has grown that may grow once more
+  -- what may follow a part by which a value has grown that may grow once more
   pub next_deep : {A B : Type 0} (fits : ℕ → Bool) (S : B → Tokens L → Tokens L → Type 0) (ks : List ℕ) → ((v : B) (i o : Tokens L) → S v i o → member (next L i) ks ≡ true)
       → (x : Bool) (w : Growth L A) (f : A → B → A) → Ends x w f → (F : List ℕ) (a : A) (b : B) (bs : List B) (v : A) (i m : Tokens L)
       → Grown fits w f (f a b) bs v → w.may v ≡ true → Chain S bs i m → member (next L m) ks ≡ true → member (next L i) (cond x (ks ++ F) F) ≡ true
@@ -119,7 +119,7 @@ module _ (L : Language) where
           let more = chain_deep g F z h n vs s.0 m o place (omega arith) some s.2 t e in
           rw (b, a, more) refl
 
-      -- what reading finds behind a value that may grow
+      -- what reading finds after a value that may grow
       abbrev Finds : {A B : Type 0} → Growth L A → Rule L B → A → Tokens L → Tokens L → L.Place → Type 0
       Finds w h v m o place = ((fits (w.height v) ≡ true) × (read L begins fits r h m ≡ deep_at place o)) ⊎ ((fits (w.height v) ≡ false) × (w.deepest v ≡ place) × (m ≡ o))
 

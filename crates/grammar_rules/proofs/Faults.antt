@@ -1,4 +1,4 @@
--- What stands before a fault in a phrase goes on.
+-- What comes before a fault in a phrase goes on.
 use Rattle.std.proofs.Common.{◌≡◌, ℕ, zero, suc, ◌+◌, true, false, nat_le, List, [], ◌∷◌, ◌++◌, length, Some, None, Ok, Err, refl, sym, subst, ◌∙◌, inl, inr, arith}
 use Rattle.std.proofs.lemmas.List.{append-nil}
 use Rattle.grammar_rules.specs.Rule.{Language, Tokens, Rule, one, empty, both, either, many, maybe, grow, made, nest, Growth, member, first, unexpected, too_deep, Fault, refuse, deep, Chain, Grown, Spells}

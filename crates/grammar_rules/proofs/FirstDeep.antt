@@ -127,7 +127,7 @@ module _ (L : Language) (G : Grammar L) (T : Tables L) (P : Passes L G T) where
       let all : a.0 ≡ drop (length i - n) i = left_are i a.0 (first_leaves L G d i a.0 place a.1).0 ∙ ap (λ (m : ℕ). drop (length i - m) i) a.2 in
       subst (λ (o : Tokens L). IsFirstTooDeep L G d i o place) all a.1
 
-  -- whatever stands behind the token
+  -- whatever follows the token
   pub first_again : (d : ℕ) (c : Tokens L) (t : L.Token) (p q : Tokens L) (place : L.Place) → IsFirstTooDeep L G d (c ++ t ∷ p) (t ∷ p) place → IsFirstTooDeep L G d (c ++ t ∷ q) (t ∷ q) place
   first_again d c t p q place s =
       let e = whole_again L G T P t p q d c place (suc (length p)) (reads_first d (c ++ t ∷ p) (t ∷ p) place s) (omega arith) in

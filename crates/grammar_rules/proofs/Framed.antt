@@ -1,4 +1,4 @@
--- What is spelled by tokens is spelled whatever stands behind them, unless a greedy token stands there.
+-- What is spelled by tokens is spelled whatever follows them, unless a greedy token follows.
 use Rattle.std.proofs.Common.{◌≡◌, ℕ, Bool, true, false, nat_eq, List, [], ◌∷◌, ◌++◌, Some, None, refl, sym, ap, subst, ◌∙◌, ◌⊎◌, inl, inr, append_assoc}
 use Rattle.std.specs.Prelude.{not, ◌&&◌}
 use Rattle.std.proofs.lemmas.Bool.{eqb-true}
@@ -11,7 +11,7 @@ module _ (L : Language) (greedy : List ℕ) where
   abbrev pub Safe : Tokens L → Type 0
   Safe u = member (next L u) greedy ≡ false
 
-  -- u may stand where o stood
+  -- u may be where o was
   abbrev pub Near : Tokens L → Tokens L → Type 0
   Near o u = (next L u ≡ next L o) ⊎ Safe u
 
@@ -19,7 +19,7 @@ module _ (L : Language) (greedy : List ℕ) where
   near_behind [] o u n = n
   near_behind (t ∷ f) o u n = inl refl
 
-  -- a front of the tokens, behind which others may stand
+  -- a front of the tokens, which others may follow
   abbrev pub Framed : (Tokens L → Tokens L → Type 0) → Tokens L → Tokens L → Type 0
   Framed S i o = (f : Tokens L) × (i ≡ f ++ o) × ((u : Tokens L) → Near o u → S (f ++ u) u)
 
@@ -46,7 +46,7 @@ module _ (L : Language) (greedy : List ℕ) where
       go false e = e
 
   module _ (begins : L.Phrase → List ℕ) (token : ℕ → L.Token) where
-    -- each token behind which something may be left out is greedy, no other token is, and each kind has a token
+    -- each token after which something may be left out is greedy, no other token is, and each kind has a token
     abbrev pub is_fit : {A : Type 0} → Rule L A → Bool
     is_fit (one x xs) = not (member x greedy) && nat_eq (L.code (token x)) x
     is_fit empty = true

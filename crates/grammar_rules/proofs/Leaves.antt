@@ -1,4 +1,4 @@
--- What is spelled leaves tokens behind it, and so does what comes before a part that nests too deep.
+-- What is spelled leaves tokens after it, and so does what comes before a part that nests too deep.
 use Rattle.std.proofs.Common.{◌≡◌, ℕ, Bool, true, ◌<◌, ◌≤◌, List, [], ◌∷◌, ◌++◌, length, Some, None, sym, ap, ◌∙◌, inl, inr, arith, append_assoc}
 use Rattle.std.proofs.lemmas.List.{length-append}
 use Rattle.grammar_rules.specs.Rule.{Language, Tokens, Rule, one, empty, both, either, many, maybe, grow, made, nest, Chain, Spells}

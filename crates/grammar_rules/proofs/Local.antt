@@ -1,4 +1,4 @@
--- A fault at a token does not depend on the tokens behind it.
+-- A fault at a token does not depend on the tokens after it.
 use Rattle.std.proofs.Common.{◌≡◌, ℕ, zero, suc, ◌+◌, ◌-◌, ◌<◌, ◌≤◌, Bool, true, false, cond, nat_eq, List, [], ◌∷◌, ◌++◌, length, Some, None, Ok, Err, refl, sym, ap, subst, ◌⊎◌, inl, inr, arith}
 use Rattle.std.specs.Prelude.{not, ◌&&◌}
 use Rattle.grammar_rules.specs.Rule.{Language, Tokens, Rule, one, empty, both, either, many, maybe, grow, made, nest, Growth, next, member, nullable, first, Wrong, unexpected, too_deep, Fault, fault_at, Outcome, refuse, take_one, repeat, grow_by, read, ◌>>=◌}

@@ -1,4 +1,4 @@
--- Rules whose first token tells how they begin.
+-- Rules whose first token says how they begin.
 use Rattle.std.proofs.Common.{Bool, true, false}
 use Rattle.std.specs.Prelude.{not, ◌&&◌}
 use Rattle.grammar_rules.specs.Rule.{Language, Rule, one, empty, both, either, many, maybe, grow, made, nest, nullable}

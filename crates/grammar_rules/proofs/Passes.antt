@@ -10,9 +10,9 @@ use Rattle.grammar_rules.proofs.Framed.{is_fit}
 
 -- what the tests look up
 pub record Tables (L : Language) : Type 0 where
-  -- the kinds of tokens that may stand behind a phrase
+  -- the kinds of tokens that may follow a phrase
   pub follow : L.Phrase → List ℕ
-  -- the kinds that are taken wherever they may stand
+  -- the kinds that are taken wherever they may be
   pub greedy : List ℕ
   -- a token of each kind
   pub token : ℕ → L.Token
@@ -27,7 +27,7 @@ pub record Passes (L : Language) (G : Grammar L) (T : Tables L) : Type 0 where
   -- the table of first tokens is right
   pub begins_first : (p : L.Phrase) → first L G.begins (G.rule_of p) ≡ G.begins p
   pub no_end : (p : L.Phrase) → member 0 (G.begins p) ≡ false
-  -- the next token tells which way to go
+  -- the next token says which way to go
   pub told : (p : L.Phrase) → is_told L G.begins T.follow (G.rule_of p) (T.follow p) ≡ true
   pub fit : (p : L.Phrase) → is_fit L T.greedy G.begins T.token (G.rule_of p) ≡ true
   pub opened : (p : L.Phrase) → is_open L (λ q. is_open L (λ r. false) (G.rule_of q)) (G.rule_of p) ≡ true

@@ -1,4 +1,4 @@
--- What stands before a token that two lists share is spelled alike, at whatever depths.
+-- What comes before a token that two lists share is spelled alike, at whatever depths.
 use Rattle.std.proofs.Common.{◌≡◌, ℕ, ◌+◌, ◌<◌, true, false, nat_le, List, length, Ok, Err, sym, ap, subst, ◌∙◌, inl, inr, arith}
 use Rattle.grammar_rules.specs.Rule.{Language, Tokens, Rule, next, member, nullable, first, Outcome}
 use Rattle.grammar_rules.specs.Grammar.{Grammar, Nests, phrase, reads}
@@ -12,7 +12,7 @@ use Rattle.grammar_rules.proofs.Answers.{phrase_past, phrase_local, phrase_same}
 use Rattle.grammar_rules.proofs.Passes.{Tables, Passes}
 
 module _ (L : Language) (G : Grammar L) (T : Tables L) (P : Passes L G T) where
-  -- the next token tells which way to go
+  -- the next token says which way to go
   abbrev pub IsTold : {A : Type 0} → Rule L A → List ℕ → Type 0
   IsTold g F = is_told L G.begins T.follow g F ≡ true
 

@@ -157,7 +157,7 @@ module _ (L : Language) where
 
   module _ {A B : Type 0} (fits : ℕ → Bool) (w : Growth L A) (f : A → B → A) (ks : List ℕ) (item : Tokens L → Outcome L B) (end : member 0 ks ≡ false)
       (falls : (i : Tokens L) (v : B) (o : Tokens L) → item i ≡ Ok (v, o) → length o < length i) where
-    -- one turn, behind which this comes
+    -- one turn, after which this comes
     abbrev turn : A → Tokens L → (A → Tokens L → Outcome L A) → Outcome L A
     turn a i then = cond (member (next L i) ks && w.may a) (cond (fits (w.height a)) (item i >>= λ x. then (f a x.0) x.1) (fault_at L (too_deep (w.deepest a)) i)) (Ok (a, i))
 

@@ -46,7 +46,7 @@ module _ (L : Language) where
   shared_tail x t u p q i j here lt = absurd (omega (arith, lt))
   shared_tail x t u p q i j (there s) lt = s
 
-  -- what may stand behind a value of a repetition
+  -- what may follow a value of a repetition
   chain_behind : {A : Type 0} (S : A → Tokens L → Tokens L → Type 0) (ks F : List ℕ) → ((v : A) (i o : Tokens L) → S v i o → member (next L i) ks ≡ true)
       → (vs : List A) (i o : Tokens L) → Chain S vs i o → member (next L o) F ≡ true → member (next L i) (ks ++ F) ≡ true
   chain_behind S ks F h [] i o s f = member-right (next L i) ks F (ap (λ (y : Tokens L). member (next L y) F) s ∙ f)
@@ -114,7 +114,7 @@ module _ (L : Language) (G : Grammar L) (T : Tables L) (P : Passes L G T) (t0 : 
     behind_grown : (a : A) (b : B) (cs : List B) (y : A) (j u : Tokens L) → Grown (λ n. nat_le n e) w f (f a b) cs y → Chain (Within L G e h) cs j u → member (next L u) F ≡ true → member (next L j) (cond w.again (first L G.begins h ++ F) F) ≡ true
     behind_grown a b cs y j u g s k = next_behind L G.begins T.follow (λ n. nat_le n e) (phrase L G e) (Nests L G e) (begun L G T P e) (phrase_shrinks L G T P e) (phrase_complete L G T P e) w.again w f ends h F z a b cs y j u g s k
 
-    -- what stands behind a value that may grow
+    -- what follows a value that may grow
     abbrev Then : A → Tokens L → Tokens L → L.Place → Type 0
     Then v m o place = ((nat_le (w.height v) d ≡ true) × Beyond h m o place) ⊎ ((m ≡ o) × ((nat_le (w.height v) d ≡ false) × (w.deepest v ≡ place) × Begins L (Spells L (λ n. true) (NestsAtAll L G) h) m))
 

@@ -32,7 +32,7 @@ pub bind_err : {A B F : Type 0} (r : Result A F) (f : A → Result B F) (e : F) 
 bind_err (Ok x) f d e = inr (x, refl, e)
 bind_err {A} {B} {F} (Err k) f d e = inl (ap (λ (h : F). Err h) (fault_is {A = B} k d e))
 
--- a step behind which nothing fails
+-- a step after which nothing fails
 pub step_err : {A B F : Type 0} (r : Result A F) (f : A → B) (e : F) → (r >>= λ x. Ok (f x)) ≡ Err e → r ≡ Err e
 step_err (Ok x) f d e = absurd cc
 step_err {A} {B} {F} (Err k) f d e = ap (λ (h : F). Err h) (fault_is {A = B} k d e)

@@ -31,7 +31,7 @@ module _ (L : Language) where
     pub spells : (z : Tokens L) → Safe L greedy z → S value (front ++ (more ++ z)) z
 
   module _ (greedy : List ℕ) where
-    -- with more behind it
+    -- with more after it
     pub viable_then : {A B : Type 0} (S : A → Tokens L → Tokens L → Type 0) (T : B → Tokens L → Tokens L → Type 0) (f : A → B) (w : Tokens L)
         → ((z : Tokens L) → Safe L greedy z → Safe L greedy (w ++ z)) → ((v : A) (j z : Tokens L) → Safe L greedy z → S v j (w ++ z) → T (f v) j z)
         → (i : Tokens L) (e : Fault L) → Viable greedy S i e → Viable greedy T i e

@@ -75,7 +75,7 @@ module _ (L : Language) (begins : L.Phrase → List ℕ) (greedy : List ℕ) (to
       spells_word (made f g) c z s = (sample g, refl, spells_word g c z s)
       spells_word (nest p) c z s = word_r p z s
 
-      -- what stands behind the token
+      -- what follows the token
       abbrev pub Opened : {A : Type 0} → (A → Tokens L → Tokens L → Type 0) → L.Token → Type 0
       Opened {A} S t = (more : Tokens L) × (v : A) × ((z : Tokens L) → Safe L greedy z → S v (t ∷ (more ++ z)) z)
 

@@ -40,7 +40,7 @@ module _ (L : Language) (G : Grammar L) where
     pub goes_on : GoesOnAtAll (take (suc place) i)
     pub within : GoesOn d (take (suc place) i) → ⊥
 
-  -- The tokens go on to a tree, but are none.
+  -- The tokens go on to a tree, but are not a tree themselves.
   pub record EndsEarly (i : Tokens L) : Type 0 where
     pub goes_on : GoesOnAtAll i
     pub not_yet : (d : ℕ) (v : G.Tree) → IsSpelled d i v → ⊥

@@ -29,7 +29,7 @@ module _ (d : Design) (dump : BoundDump) (any : IsAnyDumpOf d dump) (rounds : Ar
   pub same_round : dump.round v ≡ dump.round t
   same_round = one_last (machine d) (told_at dump t) (dump.round v) (dump.round t) (subst (λ w. IsLastRound (machine d) w (dump.round v)) told (rounds v)) (rounds t)
 
-  -- what holds by what is told and by the round holds at both
+  -- what holds by what is known of the step and by the round holds at both
   over : (holds : Told Bit → ℕ → Type 0) → holds (told_at dump v) (dump.round v) → holds (told_at dump t) (dump.round t)
   over holds k = subst (holds (told_at dump t)) same_round (subst (λ w. holds w (dump.round v)) told k)
 

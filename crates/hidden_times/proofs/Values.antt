@@ -1,4 +1,4 @@
--- At hidden times the dump's values stay, and so does what is told of a step.
+-- At hidden times the dump's values stay, and so does what is known of a step.
 use Rattle.std.proofs.Common.{◌≡◌, ℕ, zero, suc, ◌+◌, ◌-◌, ◌<◌, ◌≤◌, sym, ap, ◌∙◌, arith}
 use Rattle.design_model.specs.Design.{Design}
 use Rattle.design_model.specs.Shows.{BoundDump, IsListed, IsWindow}
@@ -33,7 +33,7 @@ module _ (dump : BoundDump) (keeps : KeepsValues dump) where
     before_last =
         sym (stay_at v hidden.last (hidden.none v hidden.later (omega arith))) ∙ at_last ∙ stay_at t hidden.first (hidden.none t (omega arith) hidden.later)
 
-    -- so the same is told of their steps
+    -- so the same is known of their steps
     pub same_told : told_at dump v ≡ told_at dump t
     same_told = λ i. record { is_told = dump.bound; old = before_last i; new = at_last i }
 

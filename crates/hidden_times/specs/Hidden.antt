@@ -26,6 +26,6 @@ pub record IsHiddenOn (dump : BoundDump) (t v : ℕ) : Type 0 where
 abbrev pub IsSameTime : BoundDump → ℕ → ℕ → Type 0
 IsSameTime dump t v = (v ≡ t) ⊎ IsHiddenOn dump t v
 
--- after t nothing moves until the dump lists a time, or t is hidden and stands for the hidden times after it
+-- after t nothing moves until the dump lists a time, or t is hidden and represents the hidden times after it
 abbrev pub IsCalm : Design → BoundDump → ℕ → Type 0
 IsCalm d dump t = BindsInputs d dump ⊎ (IsListed dump t → ⊥)

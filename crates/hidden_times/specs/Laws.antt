@@ -29,7 +29,7 @@ abbrev pub SameValuesLaw : Design → Type 0
 SameValuesLaw d =
     (dump : BoundDump) → IsAnyDumpOf d dump → (t v : ℕ) → IsHiddenOn dump t v → (dump.values v ≡ dump.values t) × (dump.values (v - 1) ≡ dump.values (t - 1))
 
--- No-clean law: at a hidden time no block is clean, since what is told of an event signal is no edge.
+-- No-clean law: at a hidden time no block is clean, since what is known of an event signal is no edge.
 abbrev pub NoCleanLaw : Design → Type 0
 NoCleanLaw d =
     (dump : BoundDump) → IsAnyDumpOf d dump → (t : ℕ) → IsWindow dump t → (IsListed dump t → ⊥) → (p : ℕ) (c : Cell) → IsCleanAt d dump t p c → ⊥

@@ -160,7 +160,7 @@ identity_more xs n h =
           (cases_lt k n);
     }
 
--- the set that an order stands for
+-- the set that an order represents
 abbrev pub members_of : List ℕ → ℕ → Members
 members_of order used = record { size = length order; items = take used order }
 

@@ -21,6 +21,6 @@ abbrev pub AreStarts : ℕ → List ℕ → Type 0
 AreStarts n [] = ⊥
 AreStarts n (start ∷ ends) = AreEnds n start ends
 
--- the row with this number, which is empty where there is none
+-- the row with this number, which is empty where there is no such row
 abbrev pub row_at : {T : Type 0} → List (List T) → ℕ → List T
 row_at rows k = slice_index_or rows k []

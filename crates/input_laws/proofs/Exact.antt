@@ -31,7 +31,7 @@ use Rattle.input_laws.proofs.Moves.{no_process_at}
 use Rattle.input_laws.proofs.SomeRun.{run_shown}
 use Rattle.input_laws.proofs.Toggled.{at_from_over, over_from_at}
 
--- a design without memories has none of any number
+-- a design without memories has no memory of any number
 no_memory : (d : Design) → d.memories ≡ [] → (m : ℕ) → is_memory d m ≡ false
 no_memory d none m = rw none (grind (arith, nat_tests))
 

@@ -14,7 +14,7 @@ use Rattle.shown_dumps.proofs.Times.{later as later_than}
 use Rattle.input_laws.specs.Inputs.{HasInputsAlone}
 use Rattle.input_laws.proofs.Runs.{some_run}
 
--- the first time of all stretches, 0 where there is none
+-- the first time of all stretches, 0 where there is no time
 abbrev begin_of : List (List ℕ) → ℕ
 begin_of [] = 0
 begin_of ([] ∷ tss) = begin_of tss

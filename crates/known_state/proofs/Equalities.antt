@@ -38,7 +38,7 @@ not_true : (p : Bool) → not p ≡ true → p ≡ false
 not_true false h = refl
 not_true true h = cc
 
--- ---- what a few vectors tell of all, at one place
+-- ---- what a few vectors say of all, at one place
 
 abbrev differs_surely : Option Bit → Option Bit → Bit → Bit → Bool
 differs_surely p q b c = implies (is_one (xor_bit (unwrap_or p X) (unwrap_or q X))) (is_one (xor_bit b c))

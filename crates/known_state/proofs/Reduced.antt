@@ -1,4 +1,4 @@
--- The reductions: what two values of the bits that are not sure tell of all.
+-- The reductions: what two values of the bits that are not sure say of all.
 use Rattle.std.proofs.Common.{◌≡◌, Bool, true, false, not, ◌&&◌, ◌||◌, List, [], ◌∷◌, Option, refl, ap, sym, ◌∙◌, ⊎_elim}
 use Rattle.std.proofs.lemmas.Bool.{and_parts, or_cases}
 use Rattle.std.specs.Option.{unwrap_or}

@@ -16,7 +16,7 @@ or_right : (p q : Bool) → q ≡ true → (p || q) ≡ true
 or_right true q h = refl
 or_right false q h = h
 
--- ---- the tests behind a truth
+-- ---- the tests that decide a truth
 
 -- a 1 that is sure is in every vector
 pub sure_one : (ps : List (Option Bit)) (bs : List Bit) → allows_bits ps bs ≡ true → list_any is_one (filled Zero ps) ≡ true → list_any is_one bs ≡ true

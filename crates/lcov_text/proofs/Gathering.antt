@@ -19,7 +19,7 @@ sorted_view xs ys points stable same =
     ∙ gathered_view trace_view (λ _. Unit {0}) traced_cmp joined_traced trace_cmp joined_trace (λ a b p q. refl) (λ a b. refl) (λ a b p q. tt) xs (λ k d within. tt)
     ∙ ap (gathered trace_cmp joined_trace) same
 
--- one more item that has a place, or that has none
+-- one more item that has a place, or that has no place
 pub placed_more : {X Y Z : Type 0} (f : X → Z) (h : Y → Option Z) (xs : List X) (x : X) (ys : List Y) (whole : List Z) (k : ℕ) (y : Y) → k < length ys → y ≡ get_or ys k y → h y ≡ Some (f x)
     → map f xs ++ filter_map h (drop k ys) ≡ whole → map f (xs ++ x ∷ []) ++ filter_map h (drop (k + 1) ys) ≡ whole
 placed_more {X} {Y} {Z} f h xs x ys whole k y within is here same =

@@ -55,7 +55,7 @@ no_hit d x (m ∷ ns) h (inl hit) = h.0 hit.0
 no_hit d x (m ∷ ns) h (inr hit) = no_hit d x ns h.1 hit
 
 module _ (st : Closing) (x : Point) (ns : List Marking) where
-  -- what was told before is not told anew
+  -- what was reported before is not reported anew
   sure_stays : (s : ℕ) (possible : Bool) (v : Verdict) → IsVerdict st.design x ns (verdict_view v) → IsHitMarked st.design x ns → v ≡ with_notes (tell st x s true possible) v
   sure_stays s possible marks.Hit is hit = refl
   sure_stays s possible (marks.Undetermined y) is hit = absurd (is.0 hit)

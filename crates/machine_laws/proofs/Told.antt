@@ -30,7 +30,7 @@ module _ (d : Design) (x : Point) where
   unmarked_before [] ns h = tt
   unmarked_before (m ∷ ms) ns h = (h.0, unmarked_before ms ns h.1)
 
-  -- what was told stays so
+  -- what was reported stays so
   pub told_before : (ms ns : List Marking) (sure possible : Bool) → IsTold d x ms sure possible → IsTold d x (ms ++ ns) sure possible
   told_before ms ns sure possible h = record { hit = λ e. hit_before ms ns (h.hit e); some = λ e u. h.some e (unmarked_before ms ns u) }
 

@@ -34,7 +34,7 @@ is_state (Arc k i j) = false
 abbrev pub step_chances : Closing → Machine → MachinePoint → Chances
 step_chances st x p = chances_in st.listed x.values (known_bits st.design (before_of st) x.signal) (known_bits st.design (all_run st).kept x.signal) p
 
--- a state or an arc of a machine is marked: where the signal may move, and a state where none was told before
+-- a state or an arc of a machine is marked: where the signal may move, and a state where no state was reported before
 abbrev pub is_due : Closing → Machine → Bool → MachinePoint → Bool
 is_due st x told p = st.sets.moves x.signal || (is_state p && not told)
 
@@ -57,7 +57,7 @@ FollowLaw =
     → AreVerdicts st.design ps (all_run st).notes before → IsStillAt st (all_run st) → HasMoreNotes st → (told ≡ true → st.listed ≡ true → AreTold st.design ps st.start) → (st.listed ≡ false → told ≡ true)
     → FollowToggles st ps before middle → MarksMachines st ps told middle after → FollowNotes st ps before after
 
--- after a step at a listed time each state was told
+-- after a step at a listed time each state was reported
 abbrev pub ToldLaw : Type 0
 ToldLaw = (st : Closing) (ps : Points) → st.listed ≡ true → AreTold st.design ps (closed st (points_of ps))
 

@@ -14,7 +14,7 @@ pub record IsTold (d : Design) (x : Point) (ns : List Marking) (sure possible : 
   pub hit : sure ≡ true → IsHitMarked d x ns
   pub some : possible ≡ true → IsUnmarked d x ns → ⊥
 
--- a state was so told of what is known; other points need not be
+-- a state was reported in this way, by what is known; other points need not be
 abbrev pub IsToldOf : Design → Replay → Point → Type 0
 IsToldOf d a (state_point i name s state x) =
     IsTold d (state_point i name s state x) a.notes (are_surely (known_bits d a.kept s) x.bits) (may_be (known_bits d a.kept s) x.bits)

@@ -1,4 +1,4 @@
--- The words of a memory as they are kept: what they stand for, and that they stay in order.
+-- The words of a memory as they are kept: what they represent, and that they stay in order.
 use Rattle.std.proofs.Common.{◌≡◌, ℕ, zero, suc, ◌+◌, ◌-◌, ◌<◌, ◌≤◌, ◌==◌, Bool, true, false, cond, if◌then◌else◌, List, [], ◌∷◌, ◌++◌, length, map, replicate, set, take, drop, get_or, None, refl, sym, ap, ap₂, subst, ◌∙◌, ⊎_elim, arith, length-set, length-append, get_or-set_same, get_or-set_other, eq-eqb}
 use Rattle.std.specs.Prelude.{All, Contains, count_by}
 use Rattle.std.specs.List.{sum_by}
@@ -15,7 +15,7 @@ use Rattle.memory_rebuild.specs.Words.{HaveWidth, KnownWords, bits_left, count, 
 use Rattle.memory_rebuild.specs.Epochs.{AreKept, Fits, bits_now, is_of, weakened}
 use Rattle.memory_rebuild.proofs.Joins.{joined_self, length-joined, unknown_joined}
 
--- what the words stand for
+-- what the words represent
 abbrev pub words_of : Shape → ℕ → List Word → KnownWords
 words_of s epoch ws = record { shape = s; words = map (bits_now s.width epoch) ws }
 

@@ -110,7 +110,7 @@ module _ (d : Design) (lawful : IsLawfulDesign d) (h : Habit) (laws : StepLaws (
   clear_end : (x : Thing) (value : HasValue (clear d h dump (suc t)) x) → thing_bits d (settled d r (suc t)) x ≡ value.0
   clear_end x value = clear_at d lawful h laws dump r fits.signals is_run (suc t) up_to (suc t) next x value.0 value.1
 
-  -- a cell that is none of the design does not change
+  -- a cell that is not of the design does not change
   beyond : (c : Cell) → has (all_cells d c.thing) c ≡ false → settled d r t c ≢ settled d r (suc t) c → ⊥
   beyond c outside changes = changes (sym (facts.unwritten c no_input no_target))
     where
@@ -218,7 +218,7 @@ module _ (d : Design) (lawful : IsLawfulDesign d) (h : Habit) (laws : StepLaws (
         abbrev f : EvaluatesSettled (machine d) p (start_of d q kq) kq.step.events
         f = acts d lawful h laws dump fits t window q q_run q_shows p not_clocked kq atq c wake differs
 
-        -- a body that is told visits the same in both
+        -- a body that reads only what is known visits the same in both
         if_inside : AllInside (KnownAtEnd d h dump (suc t) p) (execution d (body_at d p) v).visits → ⊥
         if_inside inside =
             other kq atq (
@@ -236,7 +236,7 @@ module _ (d : Design) (lawful : IsLawfulDesign d) (h : Habit) (laws : StepLaws (
         abbrev w : Values Bit
         w = f.entry
 
-        -- of an Assign that is not told each word that it mentions may be read
+        -- where an Assign reads more than what is known, each word that it mentions may be read
         module _ (is_an_assign : is_assign (process_at d p) ≡ true) (not_told : ReadsWithin d (KnownAtEnd d h dump (suc t) p) (body_at d p) → ⊥) where
           -- so a wake cell of the design ends the step alike in both runs
           end_same : (z : Thing) (b : Cell) → In b (cells d z) → (IsUnclear d h dump (suc t) z → ⊥) → settled d r (suc t) b ≡ settled d q (suc t) b

@@ -1,4 +1,4 @@
--- A signal of which an Assign has no wake bit does not matter to it, and a lawful design in which an Assign has none of a signal that it drives and mentions.
+-- A signal of which an Assign has no wake bit does not matter to it, and a lawful design in which an Assign has no wake bit of a signal that it drives and mentions.
 use Rattle.std.proofs.Common.{◌≡◌, ◌⊎◌, ⊎_elim, inl, inr, ℕ, zero, suc, ◌<◌, ◌≤◌, ◌==◌, ◌&&◌, Bool, true, false, length, refl, sym, subst, ◌∙◌, arith, lit≤, if◌then◌else◌}
 use Rattle.std.specs.Prelude.{nat_lt}
 use Rattle.std.specs.List.{list_all}

@@ -1,4 +1,4 @@
--- Signals that an Assign both drives and mentions: when it has a wake bit of them, and what holds where it has none.
+-- Signals that an Assign both drives and mentions: when it has a wake bit of them, and what holds where it has no wake bit of them.
 use Rattle.std.specs.Prelude.{◌≡◌, ◌≢◌, ◌⊎◌, ◌∷◌, ◌<◌, ℕ, true, false, [], length, codes}
 use Rattle.std.specs.List.{list_any}
 use Rattle.design_model.specs.event_machine.Cell.{Cell, Values}

@@ -1,4 +1,4 @@
--- A run that makes each write of the body perhaps misses each word that is none of its spots.
+-- A run that makes each write of the body perhaps misses each word that is not among its spots.
 use Rattle.std.proofs.Common.{◌≡◌, inl, inr, ℕ, ◌==◌, ◌&&◌, Bool, true, false, List, [], ◌∷◌, ◌++◌, map, take, drop, length, refl, sym, ap, subst, ◌∙◌, if◌then◌else◌, nat_lt}
 use Rattle.std.proofs.lemmas.Bool.{and_parts, eqb-true}
 use Rattle.design_model.specs.event_machine.Cell.{Cell}

@@ -3,7 +3,7 @@ use Rattle.std.specs.Prelude.{◌≡◌, ◌↔◌, ℕ, Bool, false, List, Opti
 use Rattle.design_model.specs.Design.{Design}
 use Rattle.wake_laws.specs.OfDesign.{IsOnceWriter}
 
--- the flag of a signal, false where there is none
+-- the flag of a signal, false where it has no flag
 abbrev pub flag_at : List Bool → ℕ → Bool
 flag_at flags x = slice_index_or flags x false
 

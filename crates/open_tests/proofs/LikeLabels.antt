@@ -17,7 +17,7 @@ use Rattle.assignments.specs.scene_laws.At.{IsState, scene_of}
 use Rattle.assignments.proofs.scene_laws.LikeScenes.{like_blames}
 use Rattle.assignments.proofs.scene_laws.LikeTerms.{LikeBlames, term_like}
 
--- by two blames that bodies do not tell apart, and two blames of the selector that are the same where it is not wholly sure
+-- by two blames that make no difference to bodies, and two blames of the selector that are the same where it is not wholly sure
 module _ (d : Design) (k : Kept) (e e' : Blames) (like : LikeBlames d k e e') (kind : CaseKind) (on : KnownBits) (b b' : ℕ) (same : all_sure on ≡ false → b' ≡ b) where
   pub record LabelsLike (ts : Terms) (f f' : Option ℕ) : Type 0 where
     pub first : label_first d kind on k e' ts f' ≡ label_first d kind on k e ts f

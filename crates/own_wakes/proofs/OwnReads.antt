@@ -82,7 +82,7 @@ named_signal y (Some no_constant) h k = absurd (false≢true k)
 named_signal y (Some a_faulty_one) h k = absurd (false≢true k)
 
 module _ (d : Design) (base : ℕ) (g : Scope) (ws : List Writing) (y : ℕ) (h : IsPlaced d base g) (less : y < length d.signals) where
-  -- an expression without faults, of whose reads none is told, reads y without what is driven where it mentions it
+  -- an expression without faults, of which no read is reported, reads y without what is driven where it mentions it
   abbrev Reads : Expr → ℕ → Shape → Type 0
   Reads e n s = faults g e ≡ [] → self_reads g ws e ≡ [] → mentions y (term base g e n s) ≡ true → IsRead g ws y
 

@@ -42,7 +42,7 @@ number_sized t (Some b) = (based_has_width _ b.text (width_from_one t.text) (wid
 
 -- ---- selects
 
--- so it is with the expression behind the first one in a bracket
+-- so it is with the expression after the first one in a bracket
 abbrev EndIsSized : SelectEnd → Type 0
 EndIsSized closed = Unit {0}
 EndIsSized (low_end e) = IsSized e

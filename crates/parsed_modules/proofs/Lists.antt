@@ -22,7 +22,7 @@ pub all_flat_map : {A B : Type 0} (P : A → Type 0) (Q : B → Type 0) (f : A �
 all_flat_map P Q f step [] h = tt
 all_flat_map P Q f step (x ∷ xs) h = all_append Q (f x) (flat_map f xs) (step x h.0) (all_flat_map P Q f step xs h.1)
 
--- what stands in the list is such
+-- what is in the list is such
 pub all_in : {A : Type 0} (P : A → Type 0) (xs : List A) → AllOf P xs → (x : A) → In x xs → P x
 all_in P [] h x k = absurd k
 all_in P (y ∷ ys) h x (inl e) = subst P e h.0

@@ -7,11 +7,11 @@ use Rattle.verilog_grammar.specs.Language.{verilog}
 use Rattle.verilog_grammar.specs.Parts.{Phrased, first_of_two, second_of_two, optional, listed}
 use Rattle.parsed_modules.proofs.TokensHold.{Spelling, IfSome, Gives, any_gives, both_give, first_gives, second_gives, either_gives, made_gives, many_gives}
 
--- what stands behind a token
+-- what follows a token
 pub after_gives : {T : Lexeme → Type 0} {S : Spelling verilog T} {A : Type 0} {x : ℕ} {g : Phrased A} {Q : A → Type 0} → Gives S g Q → Gives S (made second_of_two (both (one x []) g)) Q
 after_gives {Q = Q} h = made_gives {Q = λ p. Q p.1} (second_gives h) (λ p q. q)
 
--- what stands before a token
+-- what comes before a token
 pub before_gives : {T : Lexeme → Type 0} {S : Spelling verilog T} {A : Type 0} {x : ℕ} {g : Phrased A} {Q : A → Type 0} → Gives S g Q → Gives S (made first_of_two (both g (one x []))) Q
 before_gives {Q = Q} h = made_gives {Q = λ p. Q p.0} (first_gives h) (λ p q. q)
 

@@ -73,7 +73,7 @@ else_quiet : (b : Body) (s : Option Statement) → IfSome (IsIn b) s → IsQuiet
 else_quiet b None h = all_quiet b
 else_quiet b (Some s) h = both_quiet b (is_blocking s) true h.quiet (all_quiet b)
 
--- the default and what stands behind it, if there is one
+-- the default and what follows it, if there is one
 abbrev RestIsIn : Body → CaseArm × List CaseArm → Type 0
 RestIsIn b p = ArmIsIn b p.0 × AllOf (ArmIsIn b) p.1
 

@@ -1,4 +1,4 @@
--- The vectors of number literals have from 1 to 128 bits, whatever stands in the tokens.
+-- The vectors of number literals have from 1 to 128 bits, whatever is in the tokens.
 use Rattle.std.proofs.Common.{◌≡◌, ℕ, zero, suc, ◌<◌, ◌≤◌, ◌/◌, ◌==◌, Bool, true, false, cond, nat_le, List, [], ◌∷◌, length, refl, ap, arith}
 use Rattle.std.proofs.lemmas.List.{length-replicate}
 use Rattle.std.proofs.lemmas.Bool.{leb-false, eqb-false}

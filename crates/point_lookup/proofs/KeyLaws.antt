@@ -22,7 +22,7 @@ use Rattle.coverage_db.proofs.SubjectLaws.{index_again, number_at_again, subject
 use Rattle.point_lookup.specs.Keys.{address_key, line_key, logic_key, machine_key, nowhere, subject_key, toggle_key, word_key}
 use Rattle.point_lookup.proofs.AddressFields.{IsAddress, address_fields}
 
--- what was read is there, and the order cannot tell it from what a point counts
+-- what was read is there, and is the same in the order as what a point counts
 pub record HasSubjectKey (read : Option Subject) (s : Subject) : Type 0 where
   pub key : Subject
   pub is : read ≡ Some key
@@ -58,11 +58,11 @@ subject_key_again sources (Arc name from to) is = record { key = Arc name from t
 subject_key_again sources (Word name index true) is = record { key = Word name index true; is = rw (number_at_again 0 4294967295 index (write_text true ∷ []) (omega arith) (omega arith) (omega (arith, is.1))) refl; rank = refl; alike = λ x. refl }
 subject_key_again sources (Word name index false) is = record { key = Word name index false; is = rw (number_at_again 0 4294967295 index (write_text false ∷ []) (omega arith) (omega arith) (omega (arith, is.1))) refl; rank = refl; alike = λ x. refl }
 
--- the order cannot tell the two apart
+-- the two are the same in the order
 abbrev pub Alike : Address → Address → Type 0
 Alike key a = (x : Address) → address_cmp x key ≡ address_cmp x a
 
--- what was read is there, and the order cannot tell it from the address
+-- what was read is there, and is the same in the order as the address
 pub record HasKey (read : Option Address) (a : Address) : Type 0 where
   pub key : Address
   pub is : read ≡ Some key

@@ -26,7 +26,7 @@ use Rattle.point_lookup.proofs.AddressFields.{IsAddress}
 use Rattle.point_lookup.proofs.AddressOrder.{address_total, one_place, points_rise}
 use Rattle.point_lookup.proofs.KeyLaws.{Alike, HasKey, address_key_again}
 
--- a point that stands for none
+-- a point that represents no point
 pub no_point : DbPoint
 no_point =
     let address : Address = record { instance = 0; subject = State [] [] } in
@@ -52,7 +52,7 @@ one_address db i j d t a b same =
     let tied : address_cmp p q ≡ Equal = sym (l.alike p) ∙ ap (address_cmp p) (sym keys) ∙ k.alike p ∙ tied_itself address_total p in
     one_place db.points i j d t.points_rise a b tied
 
--- the order cannot tell the key from a point with the address
+-- the key and a point with the address are the same in the order
 alike_there : (db : Db) (address : List ℕ) (key : Address) (i : ℕ) (d : DbPoint) → IsTable db → address_key db.instances (fields_of address) ≡ Some key → i < length db.points → has_address db.instances address (get_or db.points i d) ≡ true
     → Alike key (get_or db.points i d).address
 alike_there db address key i d t read within has =

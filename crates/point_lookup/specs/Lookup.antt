@@ -17,7 +17,7 @@ has_address instances address p = bytes_eq (address_text instances p.address) ad
 abbrev pub place_of : Db → List ℕ → Option ℕ
 place_of db address = position (has_address db.instances address) db.points
 
--- a place at which the order cannot tell the point from the key, if there is one
+-- the place of a point that is equal to the key in the order, if there is one
 abbrev pub IsSearch : List DbPoint → Address → Option ℕ → Type 0
 IsSearch points key (Some place) = (place < length points) × ((d : DbPoint) → address_cmp (slice_index_or points place d).address key ≡ Equal)
 IsSearch points key None = (place : ℕ) (d : DbPoint) → place < length points → address_cmp (slice_index_or points place d).address key ≢ Equal

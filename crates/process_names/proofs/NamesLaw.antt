@@ -40,7 +40,7 @@ two x xs ys a b p q = has-append x xs ys ∙ ap₂ (λ m n. m || n) p q
 three : (x : ℕ) (xs ys zs : List ℕ) (a b c : Bool) → has x xs ≡ a → has x ys ≡ b → has x zs ≡ c → has x (xs ++ ys ++ zs) ≡ (a || (b || c))
 three x xs ys zs a b c p q r = two x (xs ++ ys) zs (a || b) c (two x xs ys a b p q) r ∙ or_assoc a b c
 
--- the statement of an arm stands with its labels, or behind all arms
+-- the statement of an arm is with its labels, or after all arms
 either_place : (x : ℕ) (d : Bool) (labels here arms later : List ℕ) (a b c : Bool) → has x labels ≡ a → has x here ≡ b → (has x arms || has x later) ≡ c
     → (has x (labels ++ (if d then [] else here) ++ arms) || has x ((if d then here else []) ++ later)) ≡ (a || (b || c))
 either_place x true labels here arms later a b c p q r =

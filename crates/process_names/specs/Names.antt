@@ -1,5 +1,5 @@
 -- What a text mentions, in the order in which its execution reads: an index before what it indexes, the indexes of a target before the
--- value, and of a case all labels before the default, wherever it stands.
+-- value, and of a case all labels before the default, wherever it is.
 use Rattle.std.specs.Prelude.{if◌then◌else◌, ℕ, List, [], ◌∷◌, ◌++◌}
 use Rattle.cov_host.specs.declared.place.Place.{Place}
 use Rattle.design_model.specs.Execution.{is_default}

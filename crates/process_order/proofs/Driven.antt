@@ -62,7 +62,7 @@ module _ (x : ℕ) where
   driven_is (comb i wakes s) e = assigns s
   driven_is (clocked i events s) e = cc
 
--- a Clocked has none
+-- a Clocked drives no names
 pub clocked_drives_none : (p : Process) → is_clocked p ≡ true → driven_names p ≡ []
 clocked_drives_none (assign i y t counted) e = cc
 clocked_drives_none (comb i wakes s) e = cc

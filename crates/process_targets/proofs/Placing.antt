@@ -36,7 +36,7 @@ distinct_by : (ns : List ℕ) → ((i j : ℕ) → i < length ns → j < length 
 distinct_by [] h = tt
 distinct_by (n ∷ ns) h = (λ m. let k = in_at n ns m in absurd (omega (arith, h 0 (suc k.0) (omega arith) (omega (arith, k.1)) (sym k.2))), distinct_by ns (λ i j li lj e. omega (arith, h (suc i) (suc j) (omega (arith, li)) (omega (arith, lj)) e)))
 
--- a row of which each signal has its place has none twice
+-- a row of which each signal has its place has no signal twice
 pub placed_once : (xs : List Bits) (places : List ℕ) → ArePlaced xs places → IsOnce xs
 placed_once xs places h =
     distinct_by (map (λ b. b.signal) xs) (λ i j li lj e.
@@ -97,7 +97,7 @@ placed_has xs places k s i h l is = go (is_set (get_or xs k no_bits).mask i) ref
     go false e =
         e ∙ sym (list_any_none (λ b. has_bit b (cell s i)) xs (All-from_get_or (λ b. has_bit b (cell s i) ≡ false) xs no_bits (λ j m. none j m e ((get_or xs j no_bits).signal == s) refl)))
 
--- of a signal that is not in the row there are none
+-- of a signal that is not in the row there are no bits
 pub unnamed_has : (xs : List Bits) (s i : ℕ) → names xs s ≡ false → row_has xs (cell s i) ≡ false
 unnamed_has [] s i h = refl
 unnamed_has (x ∷ xs) s i h = go (x.signal == s) refl h (λ e. unnamed_has xs s i e)

@@ -257,7 +257,7 @@ module _ (d : Design) (habit : Habit) (points : Points) (x : ReplayTables) (r : 
               run_refuted m dump t kind a before at (state_of k.sets) early (listed_of k) k.values store u.notes.marks (start dump t a e at) z.store w.step.values z.acted.items z.notes.marks (over dump t a e at)
               w.ran.items x.step.targets x.checks one (runs_over dump t a e at) differs
 
-          -- where there is none, and the toggles and the machines are marked, each dump is followed up to the end of the step
+          -- where there is no such signal, and the toggles and the machines are marked, each dump is followed up to the end of the step
           pub closes_run : (y : ReplayState) (middle : Marks) (moves : List ℕ) → All (AgreesAt x.step.codes.items s.values.last w.step.values.made) (last_of_each (flat_map (row_at x.checks) w.ran.items))
               → moves ≡ (state_of k.sets).moves → IsOfDesign d (flags_of x.step.codes.items) (state_of w.step.sets) → HasWriters d x.step.codes.items (state_of w.step.sets) → AreMarksOf points z.notes.marks
               → y.store ≡ z.store → y.acted.items ≡ z.acted.items → y.values.closed ≡ s.values.last → KeptWordsLaw → w.words ≡ q.words → y.notes.written.ranges ≡ s.notes.written.ranges

@@ -136,7 +136,7 @@ pub record FitsParts (d : Design) (points : Points) (x : ReplayTables) (r : Repl
   pub state : FitsState d points x s
   pub words : FitsWords d x s.notes.written r.words
 
--- nothing is known of a signal or word, and the states of no machine were told
+-- nothing is known of a signal or word, and the states of no machine were reported
 pub record IsForgotten (d : Design) (r : ReplayRoom) (s : ReplayState) : Type 0 where
   pub knows : Knows d nothing s.store
   pub words : HasWords d nothing s.notes.written.ranges r.words

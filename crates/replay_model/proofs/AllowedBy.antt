@@ -1,4 +1,4 @@
--- After a closing step the values at the end of a step are allowed; and a contradiction is none where there is such a step.
+-- After a closing step the values at the end of a step are allowed; and there is no contradiction where there is such a step.
 use Rattle.std.proofs.Common.{◌≡◌, ◌⊎◌, inl, inr, ⊎_elim, ℕ, zero, suc, ◌<◌, ◌≤◌, true, false, not, ◌&&◌, List, [], ◌∷◌, ◌++◌, length, refl, sym, ap, subst, ◌∙◌, arith, Some, None}
 use Rattle.std.specs.Prelude.{slice_index_or}
 use Rattle.std.specs.List.{list_any}
@@ -198,7 +198,7 @@ module _ (d : Design) (h : Habit) (dump : BoundDump) (run : Runs) (tables : Tabl
         run_all_sound d is.lawful h dump is.fits run is.runs tables is.tabled t sets a u w here starts w_nets false tables.last (λ p x. ((is.tabled.others p).0 (inr x)).1) (run_all_settling st true tables.order (settle_start st (clocked_run st)))
         (run_all_sound d is.lawful h dump is.fits run is.runs tables is.tabled t sets a u w here starts w_nets true tables.order (λ p x. ((is.tabled.others p).0 (inl x)).1) (settle_start st (clocked_run st)) settle_starts)
 
-    -- a contradiction is none where a run shows the dump
+    -- there is no contradiction where a run shows the dump
     pub contradicts_none : (c : Cell) → contradicts st c ≡ true → ⊥
     contradicts_none c e =
         let one = and_parts (is_dumped d dump.bound c) _ e in

@@ -40,6 +40,6 @@ module _ (d : Design) (h : Habit) (dump : BoundDump) (run : Runs) (tables : Tabl
     pub all_sound : Sound (all_run st)
     all_sound = any_step.all_sound d h dump run tables points is early_law t sets are a (settled d r t) (settled d r (suc t)) here (nets_at t) (nets_at (suc t)) starts acted unknown
 
-    -- a contradiction is none where a run shows the dump
+    -- there is no contradiction where a run shows the dump
     pub contradicts_none : (c : Cell) → contradicts st c ≡ true → ⊥
     contradicts_none c e = any_step.contradicts_none d h dump run tables points is early_law t sets are a (settled d r t) (settled d r (suc t)) here (nets_at t) (nets_at (suc t)) starts acted unknown c e

@@ -1,4 +1,4 @@
--- A point of a body that is hit at this time, in a run that shows the dump, is told to be hit or in doubt.
+-- A point of a body that is hit at this time, in a run that shows the dump, is reported to be hit or in doubt.
 use Rattle.std.proofs.Common.{◌≡◌, ◌⊎◌, inl, inr, ⊎_elim, ℕ, suc, ◌<◌, Bool, true, false, not, ◌||◌, List, [], ◌∷◌, length, refl, sym, ap, subst, ◌∙◌, Option, Some, None}
 use Rattle.std.specs.List.{list_all}
 use Rattle.std.proofs.lemmas.Bool.{both_ways, cases_lt}
@@ -60,7 +60,7 @@ module _ (d : Design) (h : Habit) (dump : BoundDump) (run : Runs) (tables : Tabl
   level_below : (p y : ℕ) → is_level (process_at d p) y ≡ true → p < length d.processes
   level_below p y level = ⊎_elim (λ lt. lt) (λ le. absurd (both_ways false refl (subst (λ z. is_level z y ≡ true) (past d.processes p le) level))) (cases_lt p (length d.processes))
 
-  -- something is told of a spot of p at this time
+  -- something is reported of a spot of p at this time
   abbrev TellsNow : ℕ → Spot → Type 0
   TellsNow p s = (n : Marking) × In n (all_run st).notes × (n.key ≡ of_process p s) × ((n.doubt ≡ None) ⊎ ((y : ℕ) × (n.doubt ≡ Some (record { time = suc t; thing = y }))))
 
@@ -154,7 +154,7 @@ module _ (d : Design) (h : Habit) (dump : BoundDump) (run : Runs) (tables : Tabl
             go None f (Some thing) g = by_weak thing f g is_clocked
             go None f None g = absurd (unwoken_none d h dump run tables points is laws t window r showing k at p is_clocked (are.no_wakes p g) v scored)
 
-  -- what is told of the point
+  -- what is reported of the point
   abbrev pub PointTold : Point → Type 0
   PointTold x = (n : Marking) × In n (all_run st).notes × IsKeyOf d x n.key × ((n.doubt ≡ None) ⊎ ((y : ℕ) × (n.doubt ≡ Some (record { time = suc t; thing = y }))))
 

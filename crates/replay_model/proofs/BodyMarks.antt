@@ -55,7 +55,7 @@ module _ (d : Design) (h : Habit) (dump : BoundDump) (run : Runs) (tables : Tabl
   abbrev pub Good : List ℕ → Working → Type 0
   Good ps wk = Sound d h dump run tables points is laws early_law t window sets are a r showing starts acted unknown wk × ((q : ℕ) → In q ps → IsClocked (process_at d q) → ⊥)
 
-  -- what the stages tell
+  -- what the stages report
   pub clean_told : Traced (CleanRun d is.lawful h early_law dump run is.runs tables t sets are a) (λ q. In q tables.clocked × ((s : ℕ) × (sets.trigger q ≡ Some s))) a.notes (run_all_clean st (clean_order st) (opened st)).notes
   clean_told =
       order_traced d is.lawful h early_law dump run is.runs tables t sets are a (distinct_left tables.clocked (tables.order ++ tables.last) is.tabled.once)
@@ -82,7 +82,7 @@ module _ (d : Design) (h : Habit) (dump : BoundDump) (run : Runs) (tables : Tabl
       settle_all d is.lawful h early_law dump run is.runs tables t sets are a Good false (next false) tables.last (run_all_settling st true tables.order (settle_start st (clocked_run st)))
       ((settle_keeps d is.lawful h early_law dump run is.runs tables t sets are a Good true (next true) tables.order (settle_start st (clocked_run st)) (settle_starts d h dump run tables points is laws early_law t window sets are a r showing starts acted unknown, settles_order)).0, settles_last)
 
-  -- what was told before stays told
+  -- what was reported before stays reported
   pub old_kept : (n : Marking) → In n a.notes → In n (all_run st).notes
   old_kept n y = last_told.keeps n (order_told.keeps n (weak_told.keeps n (clean_told.keeps n y)))
 
@@ -131,7 +131,7 @@ module _ (d : Design) (h : Habit) (dump : BoundDump) (run : Runs) (tables : Tabl
       go (unsure y q g f) = absurd (is.runs.perhaps_no_hit p (plain_store (settled_kept d p k.wk.kept)) (suc t) y (told_hit p ns n there e).0 (abbrev_notes (perhaps (suc t) y) f))
       go (still q g f) = absurd (subst (HasHitNote (told_hit p ns n there e).0) (is.runs.quiet_notes p (plain_store (settled_kept d p k.wk.kept))) (abbrev_notes quiet f))
 
-  -- a hit that the step tells is one in each run that shows the dump
+  -- a hit that the step reports is one in each run that shows the dump
   pub body_hit : (x : Point) (n : Marking) → In n (all_run st).notes → IsKeyOf d x n.key → n.doubt ≡ None → In n a.notes ⊎ HitNow x
   body_hit x n there key e = ⊎_elim in_order (λ k. inr (settle_hit x n k.0 k.1 k.2 k.3 key e)) (last_told.from n there)
     where

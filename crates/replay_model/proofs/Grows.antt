@@ -1,4 +1,4 @@
--- More that is known: what it is told by, reads, visits and leaves open.
+-- What a body reads, visits and leaves open where more is known.
 use Rattle.std.proofs.Common.{◌≡◌, ◌≢◌, ◌⊎◌, inl, inr, ⊎_elim, ℕ, Bool, true, false, List, [], ◌∷◌, ◌++◌, map, refl, sym, ap, subst, ◌∙◌, Option, Some, None}
 use Rattle.event_machine.specs.Cell.{Cell, Values}
 use Rattle.design_model.specs.four_state.Operators.{matches}

@@ -1,4 +1,4 @@
--- A point that is hit at a hidden time after the one of a closing step, in a run that shows the dump, is told in that step to be hit or in doubt.
+-- A point that is hit at a hidden time after the one of a closing step, in a run that shows the dump, is reported in that step to be hit or in doubt.
 use Rattle.std.proofs.Common.{◌≡◌, ◌⊎◌, inl, inr, ⊎_elim, ℕ, suc, ◌<◌, ◌≤◌, Bool, true, false, not, ◌&&◌, ◌||◌, List, [], ◌∷◌, length, map, refl, sym, ap, subst, ◌∙◌, arith, Option, Some, None, if◌then◌else◌}
 use Rattle.std.specs.List.{list_all}
 use Rattle.std.proofs.lemmas.Bool.{and_from, both_ways, cases_lt, false_from_ne_true, not_from_false, true_from_ne_false}
@@ -138,7 +138,7 @@ module _ (d : Design) (h : Habit) (dump : BoundDump) (run : Runs) (tables : Tabl
   level_below : (p y : ℕ) → is_level (process_at d p) y ≡ true → p < length d.processes
   level_below p y level = ⊎_elim (λ lt. lt) (λ le. absurd (both_ways false refl (subst (λ z. is_level z y ≡ true) (past d.processes p le) level))) (cases_lt p (length d.processes))
 
-  -- something is told of a spot of p at the time of the closing step
+  -- something is reported of a spot of p at the time of the closing step
   abbrev TellsNow : ℕ → Spot → Type 0
   TellsNow p s = (n : Marking) × In n (all_run st).notes × (n.key ≡ of_process p s) × ((n.doubt ≡ None) ⊎ ((y : ℕ) × (n.doubt ≡ Some (record { time = suc t; thing = y }))))
 
@@ -210,7 +210,7 @@ module _ (d : Design) (h : Habit) (dump : BoundDump) (run : Runs) (tables : Tabl
             go None f (Some thing) g = by_weak thing f g is_clocked
             go None f None g = absurd (unwoken_none d h dump run tables points is laws e hidden.last r showing k at p is_clocked (asleep g) v scored)
 
-  -- what is told of the point
+  -- what is reported of the point
   abbrev pub PointTold : Point → Type 0
   PointTold x = (n : Marking) × In n (all_run st).notes × IsKeyOf d x n.key × ((n.doubt ≡ None) ⊎ ((y : ℕ) × (n.doubt ≡ Some (record { time = suc t; thing = y }))))
 
@@ -291,7 +291,7 @@ module _ (d : Design) (h : Habit) (dump : BoundDump) (run : Runs) (tables : Tabl
       (tells_of st x s (are_surely (known_bits d (before_of st) s) from && are_surely (known_bits d (all_run st).kept s) to) (may_be (known_bits d (before_of st) s) from && may_be (known_bits d (all_run st).kept s) to)
       (and_from _ _ (may_bits (before_of st) (settled d r e) befores (signal_cells d s) from was) (may_bits (all_run st).kept (settled d r (suc e)) ends (signal_cells d s) to now)))
 
-  -- a point that is hit in the step: it is on a signal and told of, or of a body
+  -- a point that is hit in the step: it is on a signal and reported, or of a body
   pub point_marked : (x : Point) → In x points → (k : StepOf r) → k.step.time ≡ suc e → HitIn d r k x → PointNow st x (point_notes st x) ⊎ ((s : Spot) × (spot_at x ≡ Some s))
   point_marked (line_point q n at word) member k here hit = inr (line n, refl)
   point_marked (logic_point q n at op c) member k here hit = inr (node n c, refl)

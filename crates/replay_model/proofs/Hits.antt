@@ -1,5 +1,5 @@
--- What a closing step tells of the points of bodies: a hit is one in each run that shows the dump, and a point that is hit
--- in such a run at this time is told to be hit or in doubt.
+-- What a closing step reports of the points of bodies: a hit is one in each run that shows the dump, and a point that is hit
+-- in such a run at this time is reported to be hit or in doubt.
 use Rattle.std.proofs.Common.{◌≡◌, inl, inr, ⊎_elim, ℕ, suc, Bool, true, false, List, [], ◌∷◌, ◌++◌, refl, sym, ap, subst, ◌∙◌, Option, Some, None, if◌then◌else◌}
 use Rattle.std.specs.List.{list_any}
 use Rattle.std.proofs.lemmas.Bool.{both_ways}
@@ -34,7 +34,7 @@ use Rattle.replay_model.specs.Marks.{Marking, markings_by, of_process}
 use Rattle.replay_model.specs.Step.{Closing, certainty, certainty_from, first_unsure, has_changed, is_still, not_assigned}
 use Rattle.replay_model.specs.Laws.{IsReplayOf}
 
--- a note of a run as it is told
+-- a note of a run as it is reported
 pub told_hit : (p : ℕ) (ns : List Note) (n : Marking) → In n (markings_by p ns) → n.doubt ≡ None → (x : Spot) × (n.key ≡ of_process p x) × HasHitNote x ns
 told_hit p [] n h e = absurd h
 told_hit p (m ∷ ns) n (inl q) e = (m.spot, ap (λ z. z.key) (sym q), inl (refl, ap (λ z. z.doubt) q ∙ e))
@@ -55,7 +55,7 @@ doubt_told p [] x y h = absurd h
 doubt_told p (m ∷ ns) x y (inl q) = (record { key = of_process p m.spot; doubt = m.doubt }, inl refl, ap (of_process p) q.0, q.1)
 doubt_told p (m ∷ ns) x y (inr h) = let r = doubt_told p ns x y h in (r.0, inr r.1, r.2, r.3)
 
--- what a visit counts for tells which visit it is
+-- what a visit counts for says which visit it is
 pub visited_in : (x : Spot) (xs : List Visit) → Visited x xs → (y : Visit) × In y xs × (spot_of y ≡ Some x)
 visited_in x [] h = absurd h
 visited_in x (y ∷ xs) (inl e) = (y, inl refl, e)
@@ -220,7 +220,7 @@ module _ (d : Design) (h : Habit) (dump : BoundDump) (run : Runs) (tables : Tabl
       let act = (events k at).clean p c is_clean in
       (act.once, ⊎_elim (λ e. sym e) (λ x. absurd x) (subst (In v) act.evaluated (scored_clocked (process_at d p) d r k p v (edge_clocked (process_at d p) is_clean.can_wake.0.0 c is_clean.can_wake.0.1) scored)))
 
-  -- a Clocked that cannot wake has none
+  -- a Clocked that cannot wake has no entry that is scored
   pub unwoken_none : (k : StepOf r) → k.step.time ≡ suc t → (p : ℕ) → IsClocked (process_at d p) → (CanWakeSome d dump (suc t) p → ⊥) → (v : Values Bit) → IsScored d r k p v → ⊥
   unwoken_none k at p is_clocked never v scored = subst (In v) ((events k at).asleep p is_clocked never) (scored_clocked (process_at d p) d r k p v is_clocked scored)
 

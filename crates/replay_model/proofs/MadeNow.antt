@@ -102,11 +102,11 @@ module _ (d : Design) (h : Habit) (early_law : EarlyLaw (machine d)) (dump : Bou
           go false f = refl
           go true f = absurd (sure_bit (made_kept d dump.bound p k) (cells d x) bits e c inside (at_true (λ z. z ≡ None) _ None (k c) f refl))
 
-  -- a cell that is known without the targets of p is none of them
+  -- a cell that is known without the targets of p is not one of them
   pub made_is : (p : ℕ) (k : Kept) (x : Thing) (bits : List Bit) → sure_in d (made_kept d dump.bound p k) x bits → (c : Cell) → In c (cells d x) → ((body_assigns c.thing (body_at d p) && (is_comb (process_at d p) || not (dump.bound c.thing))) ≡ false) × (made_kept d dump.bound p k c ≡ k c)
   made_is p k x bits e c inside = ⊎_elim (λ f. absurd (sure_bit (made_kept d dump.bound p k) (cells d x) bits e c inside (at_true (λ z. z ≡ None) _ None (k c) f refl))) (λ f. (f, at_false (λ z. z ≡ k c) _ None (k c) f refl)) (cases_Bool (body_assigns c.thing (body_at d p) && (is_comb (process_at d p) || not (dump.bound c.thing))))
 
-  -- the writes of an execution on what is told
+  -- the writes of an execution that reads only what is known
   pub same_all : (K : PartialMap) (p : ℕ) (u v : Values Bit) → Agrees d K u → Agrees d K v → ReadsWithin d K (body_at d p) → all_written d (body_at d p) u ≡ all_written d (body_at d p) v
   same_all K p u v au av told =
       ap (λ z. z ++ join (execution d (body_at d p) u).nonblocking) (within_blocking d K (body_at d p) u v au av (told u au)) ∙ ap (λ z. (execution d (body_at d p) v).blocking ++ join z) (within_nonblocking d K (body_at d p) u v au av (told u au))

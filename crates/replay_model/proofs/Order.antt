@@ -40,7 +40,7 @@ stands_in q [] p h = absurd h
 stands_in q (x ∷ xs) p (inl h) = (inr h.1, inl h.0)
 stands_in q (x ∷ xs) p (inr h) = let r = stands_in q xs p h in (inr r.0, inr r.1)
 
--- what stands before p does not stand after it
+-- what is before p is not after it
 pub before_after : (pre : List ℕ) (p : ℕ) (rest : List ℕ) (q : ℕ) → AreDistinct (pre ++ p ∷ rest) → StandsBefore q (pre ++ p ∷ rest) p → In q rest → ⊥
 before_after [] p rest q once (inl h) later = once.0 h.1
 before_after [] p rest q once (inr h) later = once.0 (stands_in q rest p h).0

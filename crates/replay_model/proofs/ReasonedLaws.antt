@@ -1,4 +1,4 @@
--- What is clear is sure after a closing step, what it tells is reasoned, and so are the verdicts.
+-- What is clear is sure after a closing step, what it reports is reasoned, and so are the verdicts.
 use Rattle.std.proofs.Common.{◌≡◌, ◌⊎◌, inl, inr, ⊎_elim, ℕ, suc, true, false, List, [], ◌∷◌, ◌++◌, refl, sym, subst, ◌∙◌, arith}
 use Rattle.std.proofs.lemmas.Bool.{cases_Bool, cases_eq}
 use Rattle.event_machine.proofs.Least.{early_law}

@@ -1,4 +1,4 @@
--- What a closing step tells is reasoned, where what is clear is sure: what a block reaches is hit, and each doubt is one.
+-- What a closing step reports is reasoned, where what is clear is sure: what a block reaches is hit, and each doubt is one.
 use Rattle.std.proofs.Common.{◌≡◌, ◌≢◌, ◌⊎◌, inl, inr, ⊎_elim, ℕ, zero, suc, ◌-◌, ◌<◌, ◌≤◌, Bool, true, false, not, ◌&&◌, ◌||◌, ◌==◌, List, [], ◌∷◌, ◌++◌, map, length, refl, sym, ap, ap₂, subst, ◌∙◌, arith, Option, Some, None, if◌then◌else◌}
 use Rattle.std.specs.Prelude.{nat_le}
 use Rattle.std.specs.List.{range_with_len}
@@ -135,7 +135,7 @@ module _ (d : Design) (h : Habit) (dump : BoundDump) (run : Runs) (tables : Tabl
             (λ c y. not_hidden c (λ q. apart k.trigger one.1 x e.0 (clear-thing d h dump t x bits (subst (λ u. clear d h dump u x bits) last e.2)) (sym (in_owner d x c y) ∙ q)) (λ q. e.1 (subst (IsEarlyAt d h dump (suc t) p (cell k.trigger 0)) (in_owner d x c y) q)))
             ∙ start_sure x bits e.2
 
-    -- what it reaches is told to be hit
+    -- what it reaches is reported to be hit
     pub clean_reached : (x : Point) → ReachesFrom d (KnownOnEntry d h dump (suc t) p) (body_at d p) x → (s : Spot) × (spot_at x ≡ Some s) × HasHitNote s ns
     clean_reached x (inl y) =
         let s = visit_spot x y.0 y.1 in
@@ -144,7 +144,7 @@ module _ (d : Design) (h : Habit) (dump : BoundDump) (run : Runs) (tables : Tabl
         let s = surely_spot d (KnownOnEntry d h dump (suc t) p) (body_at d p) x surely in
         (s.0, s.1, subst (HasHitNote s.0) (sym k.notes) (is.runs.surely_open_hit p k.store (suc t) x s.0 s.1 (surely_more d (KnownOnEntry d h dump (suc t) p) (sure_in d (seen_of k.store)) entry_within (sample (seen_of k.store)) (sample_agrees d (seen_of k.store)) (body_at d p) x surely)))
 
-    -- and each doubt that it tells is one
+    -- and each doubt that it reports is one
     pub clean_doubt : (x : Point) (s : Spot) (y : Doubted) → spot_at x ≡ Some s → IsBlock d x p → HasDoubtNote s y ns → (y.time ≡ suc t) × IsInDoubt d h dump x (suc t) y.thing
     clean_doubt x s y spot block told = (blame.0, of_block p window block open_for (why (cases_Bool (sets.early p y.thing))))
       where

@@ -261,7 +261,7 @@ module _ (round : ℕ → ℕ) where
   puts_sorted [] done sorted = sorted
   puts_sorted (p ∷ ps) done sorted = puts_sorted ps (put_in_round round p done) (put_sorted p done sorted)
 
-  -- in order of rounds stand the same processes
+  -- in order of rounds there are the same processes
   pub in_order : (q : ℕ) (ps : List ℕ) → In q (in_rounds round ps) → In q ps
   in_order q ps i = ⊎_elim (λ j. j) (λ j. absurd j) (in_puts q ps [] i)
 

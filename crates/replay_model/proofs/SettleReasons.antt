@@ -1,4 +1,4 @@
--- What runs on settled values tell is reasoned, where what is clear is sure.
+-- What runs on settled values report is reasoned, where what is clear is sure.
 use Rattle.std.proofs.Common.{◌≡◌, ◌≢◌, ◌⊎◌, inl, inr, ⊎_elim, ℕ, zero, suc, ◌-◌, ◌+◌, ◌*◌, ◌<◌, ◌≤◌, Bool, true, false, not, ◌&&◌, List, [], ◌∷◌, map, length, refl, sym, ap, ap₂, subst, ◌∙◌, arith, Option, Some, None, if◌then◌else◌}
 use Rattle.std.specs.Prelude.{nat_le, nat_lt, min, max, slice_index_or}
 use Rattle.std.specs.List.{list_any, list_all, range_with_len}
@@ -190,7 +190,7 @@ module _ (d : Design) (h : Habit) (early_law : EarlyLaw (machine d)) (dump : Bou
         go (unsure x e g f) = absurd (both_ways _ e found)
         go (still e g f) = absurd (both_ways _ e found)
 
-    -- what it reaches is told to be hit
+    -- what it reaches is reported to be hit
     pub settle_reached : HasChangedWakeBit d dump (suc t) p → (x : Point) → ReachesFrom d (KnownAtEnd d h dump (suc t) p) (body_at d p) x → (s : Spot) × (spot_at x ≡ Some s) × HasHitNote s ns
     settle_reached changed x (inl y) =
         let s = visit_spot x y.0 y.1 in

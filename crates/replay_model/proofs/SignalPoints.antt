@@ -39,7 +39,7 @@ use Rattle.replay_model.proofs.Allows.{all_sound, here}
 use Rattle.replay_model.proofs.Bits.{differ_apart, in_halves, in_left, in_right, join_left, same_equal}
 use Rattle.replay_model.proofs.Settling.{in_signal}
 
--- what is told of one point
+-- what is reported of one point
 pub in_point_notes : (st : Closing) (xs : List Point) (n : Marking) → In n (all_point_notes st xs) → (x : Point) × In x xs × In n (point_notes st x)
 in_point_notes st [] n h = absurd h
 in_point_notes st (x ∷ xs) n h = ⊎_elim (λ a. (x, inl refl, a)) (λ b. let r = in_point_notes st xs n b in (r.0, inr r.1, r.2)) (in_halves n (point_notes st x) (all_point_notes st xs) h)
@@ -73,7 +73,7 @@ note_key st (toggle_point s i false) n h = key_if st (toggle_point s i false) s 
 note_key st (state_point i name s state x) n h = state_key st (state_point i name s state x) s x.bits st.listed (st.sets.moves s) n h
 note_key st (arc_point i name s from to' x y) n h = key_if st (arc_point i name s from to' x y) s (st.sets.moves s) _ _ n h
 
--- something is told of the point at this time
+-- something is reported of the point at this time
 abbrev pub PointNow : Closing → Point → List Marking → Type 0
 PointNow st x ns = (n : Marking) × In n ns × (n.key ≡ of_point x) × ((n.doubt ≡ None) ⊎ ((y : ℕ) × (n.doubt ≡ Some (record { time = st.time; thing = y }))))
 
@@ -169,7 +169,7 @@ module _ (d : Design) (h : Habit) (dump : BoundDump) (run : Runs) (tables : Tabl
   toggle_hit : (x : Point) (s : ℕ) (c : Cell) (p q : Bit) (n : Marking) → In n (mark_toggle st x s c p q) → n.doubt ≡ None → (surely_same (before_of st c) (Some p) && surely_same ((all_run st).kept c) (Some q)) ≡ true
   toggle_hit x s c p q n there e = sure_told x s (surely_same (before_of st c) (Some p) && surely_same ((all_run st).kept c) (Some q)) (not (surely_differ (before_of st c) (Some p)) && not (surely_differ ((all_run st).kept c) (Some q))) n there e
 
-  -- a state is told to be hit at a listed time alone
+  -- a state is reported to be hit at a listed time alone
   state_hit : (b : Bool) → is_listed dump (suc t) ≡ b → (x : Point) (s : ℕ) (bits : List Bit) (n : Marking) → In n (if b then mark_had st x s bits else (if sets.moves s then mark_reached st x s bits else [])) → n.doubt ≡ None → IsListed dump (suc t) × (signal_bits d (settled d r (suc t)) s ≡ bits)
   state_hit true e x s bits n there f =
       let p = sure_told x s (are_surely (known_bits d (all_run st).kept s) bits) (may_be (known_bits d (all_run st).kept s) bits) n there f in
@@ -177,7 +177,7 @@ module _ (d : Design) (h : Habit) (dump : BoundDump) (run : Runs) (tables : Tabl
   state_hit false e x s bits n there f =
       absurd (both_ways false refl (sure_told x s false (may_be (known_bits d (all_run st).kept s) bits && not (are_surely (known_bits d (before_of st) s) bits)) n (if_in (sets.moves s) n (mark_reached st x s bits) there).1 f))
 
-  -- a hit that is told of a point on a signal is one
+  -- a hit that is reported of a point on a signal is one
   pub point_hit : (x : Point) → In x points → (n : Marking) → In n (point_notes st x) → n.doubt ≡ None → IsHitAt d dump r x (suc t)
   point_hit (line_point q k at word) member n there e = absurd there
   point_hit (logic_point q k at op c) member n there e = absurd there
@@ -199,7 +199,7 @@ module _ (d : Design) (h : Habit) (dump : BoundDump) (run : Runs) (tables : Tabl
       let k = step_now (λ same. is.arcs i name s from to' x y member (sym before ∙ ap (λ f. signal_bits d f s) (sym same) ∙ after)) in
       inl (k.0, k.1, (ap (λ f. signal_bits d f s) (start_values d h r showing.is_run k.0 t k.1) ∙ before, ap (λ f. signal_bits d f s) (end_values d h r showing.is_run k.0 (suc t) k.1) ∙ after))
 
-  -- a point on a signal that is hit at this time is told of
+  -- a point on a signal that is hit at this time is reported
   moves_of : (c : Cell) → (settled d r t c ≡ settled d r (suc t) c → ⊥) → sets.moves c.thing ≡ true
   moves_of c differ = true_from_ne_false _ (λ f. differ (sym (facts.unmoved c (λ m. both_ways _ f ((are.moves c.thing).1 m)))))
 

@@ -135,7 +135,7 @@ module _ (h : Habit) (d : Design) (dump : BoundDump) (run : Runs) (tables : Tabl
     kept_told : (n : Marking) → In n a.notes → In n AfterAll
     kept_told n y = in_left n (all_run (closing_at d dump run tables sets t a)).notes (all_point_notes (closing_at d dump run tables sets t a) points) (old_kept d h dump run tables points is laws (early_law (machine d)) asked t window sets are a r showing starts acted sound.unknown n y)
 
-  -- the point is told to be hit, or in doubt at this time or one that is the same
+  -- the point is reported to be hit, or in doubt at this time or one that is the same
   abbrev Told_at : Point → ℕ → Type 0
   Told_at x u = IsHitMarked d x AfterAll ⊎ ((y : Doubted) × IsSameTime dump y.time u × IsDoubtMarked d x y AfterAll)
 
@@ -143,7 +143,7 @@ module _ (h : Habit) (d : Design) (dump : BoundDump) (run : Runs) (tables : Tabl
   told_as x u same n there key (inl e) = inl (in_hit d x AfterAll n there key e)
   told_as x u same n there key (inr e) = inr (record { time = suc t; thing = e.0 }, same, in_doubt d x (record { time = suc t; thing = e.0 }) AfterAll n there key e.1)
 
-  -- so what is told of a point on a signal, and of a body
+  -- so what is reported of a point on a signal, and of a body
   of_point : (x : Point) → In x points → (u : ℕ) → IsSameTime dump (suc t) u → PointNow (closing_at d dump run tables sets t a) x (Rattle.replay_model.specs.Step.point_notes (closing_at d dump run tables sets t a) x) → Told_at x u
   of_point x member u same n =
       told_as x u same n.0 (in_right n.0 (all_run (closing_at d dump run tables sets t a)).notes (all_point_notes (closing_at d dump run tables sets t a) points) (point_notes_in (closing_at d dump run tables sets t a) points x n.0 member n.1)) (subst (IsKeyOf d x) (sym n.2) refl) n.3

@@ -1,4 +1,4 @@
--- All that a closing step tells is reasoned, where what is clear is sure at its ends.
+-- All that a closing step reports is reasoned, where what is clear is sure at its ends.
 use Rattle.std.proofs.Common.{◌≡◌, ◌⊎◌, inl, inr, ⊎_elim, ℕ, zero, suc, ◌-◌, ◌<◌, Bool, true, false, not, ◌&&◌, List, [], ◌∷◌, ◌++◌, map, length, pos, negsuc, ℤ, refl, sym, ap, subst, ◌∙◌, arith, Option, Some, None, if◌then◌else◌}
 use Rattle.std.specs.Prelude.{nat_lt, slice_index_or}
 use Rattle.std.specs.List.{list_all}
@@ -137,7 +137,7 @@ module _ (d : Design) (h : Habit) (early_law : EarlyLaw (machine d)) (dump : Bou
   key_spot : (x : Point) (n : Marking) (p : ℕ) (s : Spot) → IsKeyOf d x n.key → n.key ≡ of_process p s → (spot_at x ≡ Some s) × IsBlock d x p
   key_spot x n p s key e = subst (IsKeyOf d x) e key
 
-  -- each doubt that is told of a point of a body is one
+  -- each doubt that is reported of a point of a body is one
   pub body_doubt : (x : Point) (y : Doubted) (n : Marking) → In n (all_run st).notes → IsKeyOf d x n.key → n.doubt ≡ Some y → In n a.notes ⊎ DoubtNow x y
   body_doubt x y n there key e = ⊎_elim in_order (λ k. inr (of_settling k.0 k.1 (of_last d h early_law dump run tables points is t sets are a k.0 k.1 k.2) k.3)) ((last_runs d h early_law dump run tables points is t sets are a).from n there)
     where
@@ -211,7 +211,7 @@ module _ (d : Design) (h : Habit) (early_law : EarlyLaw (machine d)) (dump : Bou
   none_some : (y : Doubted) (o : Option Doubted) → o ≡ Some y → o ≡ None → ⊥
   none_some y o e f = cc
 
-  -- a doubt that is told of a point on signal s
+  -- a doubt that is reported of a point on signal s
   told_doubt_of : (x : Point) (s : ℕ) (p q : Bool) (n : Marking) (y : Doubted) → In n (tell st x s p q) → n.doubt ≡ Some y → (p ≡ false) × (q ≡ true) × (record { time = suc t; thing = s } ≡ y)
   told_doubt_of x s p q n y there e = ⊎_elim (λ z. absurd (none_some y n.doubt e z.1)) (λ z. (z.0, z.1, some_some y (record { time = suc t; thing = s }) n.doubt e z.2)) (told_of st x s p q n there).1
 
@@ -268,7 +268,7 @@ module _ (d : Design) (h : Habit) (early_law : EarlyLaw (machine d)) (dump : Bou
       as_doubt (arc_point i name s from to' x z) s y refl (may s k.0)
       (⊎_elim (λ f. let c = unknown_in (before_of st) (signal_cells d s) x.bits f both.0 in before_unclear s c.0 c.1 c.2) (λ f. let c = unknown_in (all_run st).kept (signal_cells d s) z.bits f both.1 in end_unclear s c.0 c.1 c.2) (and_cases (are_surely (known_bits d (before_of st) s) x.bits) _ told.0)) told.2
 
-  -- each doubt that is told in the step is one
+  -- each doubt that is reported in the step is one
   abbrev After : List Marking
   After = (all_run st).notes ++ all_point_notes st points
 

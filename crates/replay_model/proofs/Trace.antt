@@ -1,4 +1,4 @@
--- What a closing step tells the marks: the notes of which runs, on which stores.
+-- What a closing step reports to the marks: the notes of which runs, on which stores.
 use Rattle.std.proofs.Common.{◌≡◌, ◌⊎◌, inl, inr, ⊎_elim, ℕ, suc, ◌≤◌, Bool, true, false, ◌||◌, ◌==◌, List, [], ◌∷◌, ◌++◌, refl, sym, subst, ◌∙◌, Option, Some, None, if◌then◌else◌}
 use Rattle.std.proofs.lemmas.Bool.{both_ways, cases_Bool, or_left, or_right}
 use Rattle.std.proofs.lemmas.Bool.{eq-eqb}
@@ -20,7 +20,7 @@ use Rattle.replay_model.specs.Laws.{closing_at}
 use Rattle.replay_model.proofs.Bits.{in_halves, in_left, in_right}
 use Rattle.replay_model.proofs.Rounds.{AreSorted, order_distinct, order_in, order_sorted, others_early}
 
--- what was told of a point stands in the list
+-- what was reported of a point is in the list
 pub hit_in : (d : Design) (x : Point) (ns : List Marking) → IsHitMarked d x ns → (n : Marking) × In n ns × IsKeyOf d x n.key × (n.doubt ≡ None)
 hit_in d x [] h = absurd h
 hit_in d x (n ∷ ns) (inl h) = (n, inl refl, h.0, h.1)
@@ -93,7 +93,7 @@ module _ (d : Design) (lawful : IsLawfulDesign d) (h : Habit) (early_law : Early
     pub store : StoreView
     pub notes : ns ≡ (run p store (weak (suc t) thing)).notes
 
-  -- what is kept is as at the start, but for what the clean blocks that ran write by blocking assignments
+  -- what is kept is as at the start, except for what the clean blocks that ran write by blocking assignments
   abbrev pub KeptOr : (ℕ → Type 0) → Working → Type 0
   KeptOr Ran wk = (c : Cell) → (wk.kept c ≡ a.kept c) ⊎ ((q : ℕ) × Ran q × ((machine d).blocking q c ≡ true))
 

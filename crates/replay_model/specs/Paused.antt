@@ -16,7 +16,7 @@ use Rattle.body_replay.specs.Contract.{Doubted}
 use Rattle.replay_model.specs.Marks.{IsDoubtMarked, IsHitMarked}
 use Rattle.replay_model.specs.Step.{Replay}
 
--- all that the dump shows before time u is behind it: what it has reported is right of it, and a Comb that has acted has left its targets so
+-- the replay has passed all that the dump shows before time u: what it has reported is right of it, and a Comb that has acted has left its targets so
 pub record IsPaused (d : Design) (h : Habit) (dump : BoundDump) (points : List Point) (u : ℕ) (a : Replay) : Type 0 where
   -- a Comb that has acted has left its targets so
   pub acted : (r : Run) → IsShowing d h dump u r → (p : ℕ) → IsComb (process_at d p) → a.acted p ≡ true → IsLeft d p (settled d r u)

@@ -33,7 +33,7 @@ IsMade d bound p k =
     → has_cell (all_written d (body_at d p) v) c ≡ true
     → k c ≡ Some (put_all v (all_written d (body_at d p) v) c)
 
--- what is sound in the replay, after its closed steps up to time t of the dump, of a design with these points; a hidden time t stands for the hidden
+-- what is sound in the replay, after its closed steps up to time t of the dump, of a design with these points; a hidden time t represents the hidden
 -- times after it, up to the next listed one
 pub record IsSound (d : Design) (h : Habit) (dump : BoundDump) (points : List Point) (t : ℕ) (a : Replay) : Type 0 where
   -- in each run that shows the dump up to t, or up to a time that is the same, the settled values are allowed

@@ -291,7 +291,7 @@ tell st x s sure possible =
 abbrev pub bit_may_be : Option Bit → Bit → Bool
 bit_may_be o b = not (surely_differ o (Some b))
 
--- what is known of a bit before the step; a time that the dump does not list stands for more such times, so there it is as at the
+-- what is known of a bit before the step; a time that the dump does not list represents more such times, so there it is as at the
 -- start of the step or as after it
 abbrev pub before_of : Closing → Kept
 before_of st c = if st.listed then st.start.kept c else join_bit (st.start.kept c) ((all_run st).kept c)

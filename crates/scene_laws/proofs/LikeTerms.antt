@@ -1,4 +1,4 @@
--- Terms do not tell two scenes apart that differ only in the blames of signals of which all bits are sure.
+-- Terms are the same in two scenes that differ only in the blames of signals of which all bits are sure.
 use Rattle.std.proofs.Common.{Bool, List, None, Option, Some, [], ap, ap₂, false, if◌then◌else◌, inl, inr, le-ltb, length, map, nat_lt, refl, subst, sym, true, zero, ℕ, ⊎_elim, ◌&&◌, ◌*◌, ◌+◌, ◌-◌, ◌++◌, ◌∙◌, ◌∷◌, ◌≡◌, ◌⊎◌}
 use Rattle.std.proofs.lemmas.Bool.{true≢false}
 use Rattle.std.specs.Prelude.{nat_le, slice_index_or}
@@ -143,7 +143,7 @@ choice_like h c ps qs bc bt bu bc' bt' bu' gc gt gu u = go (known_truth c) refl 
         side true y r = gu r
         side false y r = gt r
 
--- the blames are the same but for signals of which all bits are sure
+-- the blames are the same except for signals of which all bits are sure
 pub record LikeBlames (d : Design) (k : Kept) (e e' : Blames) : Type 0 where
   pub wrote : (m : ℕ) → e'.wrote m ≡ e.wrote m
   pub blame : (x : ℕ) → (nat_lt x (length d.signals) && all_sure (map k (signal_cells d x))) ≡ false → e'.blame x ≡ e.blame x

@@ -17,7 +17,7 @@ pub record SameTerm (v w : Scene) (before : Option ℕ) (t : Term) : Type 0 wher
   pub first : first_after w before t ≡ first_after v before t
   pub marks : marks_of w before t ≡ marks_of v before t
 
--- *alike*: no term tells scenes apart that are alike
+-- *alike*: each term is the same in scenes that are alike
 abbrev pub TermsAlike : Type 0
 TermsAlike = (v w : Scene) → Like v w → (first : Option ℕ) (t : Term) → SameTerm v w first t
 

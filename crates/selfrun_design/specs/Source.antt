@@ -1,4 +1,4 @@
--- What the text of a selfrun stands for.
+-- What the text of a selfrun means.
 use Rattle.std.specs.Prelude.{◌≡◌, true, List, [], ◌∷◌, Ok, codes}
 use Rattle.std.specs.Global.{Global}
 use Rattle.design_model.specs.View.{design_view}

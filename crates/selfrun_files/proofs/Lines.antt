@@ -26,7 +26,7 @@ samples_step (suc n) m some =
     let same : n ≡ suc n - 1 = omega arith in
     ap (λ k. low m ∷ high m ∷ samples k (after m)) same
 
--- once the lines of its beginning were made, what comes is its end and the steps behind it
+-- once the lines of its beginning were made, what comes is its end and the steps after it
 pub low_made : (left at : ℕ) (m : Moment) (old new : List ℕ) (next : Next) → next ≡ Low → (left ≡ 0 → ⊥) → at ≡ length old → new ≡ sample_text (low m)
     → new ++ flat_map sample_text (high m ∷ samples (left - 1) (after m)) ≡ drop at old ++ flat_map sample_text (samples_from next left m)
 low_made left at m old new next is some read made =

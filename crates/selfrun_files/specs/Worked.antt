@@ -12,7 +12,7 @@ pub record AreWorkedNumbers : Type 0 where
   pub first_d : (inputs_at (start 1)).d ≡ 60
   pub second_d : (inputs_at (after (start 1))).d ≡ 94
 
--- the lines behind the header
+-- the lines after the header
 abbrev pub worked_lines : List (List ℕ)
 worked_lines =
     codes "#0" ∷ codes "0c" ∷ codes "1w" ∷ codes "b0000 a" ∷ codes "b00111100 d" ∷ codes "b00000000 p" ∷ codes "b00000000 q"

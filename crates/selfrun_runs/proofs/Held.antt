@@ -34,7 +34,7 @@ word_is_6 v a c w = of_memory selfrun 6 a (signal_bits selfrun v 5) c w
 q_is_4 : (v : Values Bit) (a : ℕ) (c : Cell) → WritesCell (q_update v a) c → c.thing ≡ 4
 q_is_4 v a c w = of_signal selfrun 4 (word_bits selfrun v 6 a) c w
 
--- things that are told apart by their numbers
+-- things that differ by their numbers
 other_thing : (x y z : ℕ) → x ≡ y → (y == z) ≡ false → x ≢ z
 other_thing x y z same differ e = eqb-false y z differ (sym same ∙ e)
 

@@ -17,7 +17,7 @@ use Rattle.store_knowledge.specs.scene_laws.At.{flat}
 abbrev pub is_queued : Bool → Target → Term → Bool
 is_queued blocking x t = not blocking
 
--- ---- an Assign or Comb has none
+-- ---- an Assign or Comb has no nonblocking assignments
 
 none_of : (b : Bool) → not b ≡ true → b ≡ false
 none_of true h = absurd (false≢true h)

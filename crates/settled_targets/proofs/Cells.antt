@@ -120,7 +120,7 @@ row_same f g s (j ∷ js) same = ap₂ (λ p ps. p ∷ ps) (same j) (row_same f 
 pub made_of_others : (d : Design) (b : Bits) (h : Bool) (r m : Kept) (s : ℕ) → (b.signal == s) ≡ false → map m (signal_cells d s) ≡ map (remade (has_bit b) h r m) (signal_cells d s)
 made_of_others d b h r m s e = row_same m (remade (has_bit b) h r m) s (range_with_len 0 (signal_at d s).width) (λ j. sym (ap (λ t. if t && is_set b.mask j then holding h r (cell s j) else m (cell s j)) e))
 
--- a signal that the dump has is none that it does not have
+-- a signal that the dump has is not one that it does not have
 pub coded_apart : (codes : List (Option ℕ)) (b : Bits) (s : ℕ) → has_code codes b.signal ≡ false → has_code codes s ≡ true → (b.signal == s) ≡ false
 coded_apart codes b s free coded = false_from_ne_true _ (λ e. false≢true (sym free ∙ ap (has_code codes) (eqb-true b.signal s e) ∙ coded))
 

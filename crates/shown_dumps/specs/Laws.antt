@@ -70,7 +70,7 @@ FirstTimeLaw =
     (codes : List (Option ℕ)) (entries more : List Entry) (first next : ℕ) → Rises None (entries ++ Time next ∷ more) → times_in (open_stretch entries) ≡ first ∷ []
     → IsFirstTime (dump_with codes entries next more) (ended_at entries) first
 
--- the last of several times before the next is listed, and of the window, and there is none between it and the one before
+-- the last of several times before the next is listed, and of the window, and there is no listed time between it and the one before
 pub record IsNextTime (dump : BoundDump) (before last : ℕ) : Type 0 where
   pub rises : before < last
   pub listed : IsListed dump last

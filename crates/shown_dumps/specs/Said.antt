@@ -64,6 +64,6 @@ abbrev pub end_from : ℕ → List (List ℕ) → ℕ
 end_from end [] = end
 end_from end (times ∷ later) = end_from (end_of end times) later
 
--- the last time of the last stretch that has ended and has two times; zero where there is none
+-- the last time of the last stretch that has ended and has two times; zero where there is no such stretch
 abbrev pub ended_at : List Entry → ℕ
 ended_at entries = end_from 0 (map times_in (ended_stretches entries))

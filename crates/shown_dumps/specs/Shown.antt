@@ -8,7 +8,7 @@ use Rattle.design_model.specs.declared.design.Design.{Design}
 use Rattle.vcd_reader.specs.Dump.{Dump, DumpStep, times_of, value_at}
 use Rattle.signal_binding.specs.Binding.{codes_of}
 
--- the bit of a value at a place above the lowest one; x where there is none
+-- the bit of a value at a place above the lowest one; x where there is no such bit
 abbrev pub bit_at : Option Vector → ℕ → Bit
 bit_at None place = X
 bit_at (Some value) place = slice_index_or value.bits place X

@@ -84,7 +84,7 @@ module _ (table : Table) (design : Design) (aliases : List Alias) (codes : List 
           let e : a.signal ≡ s = grind (arith, nat_tests) in
           among_found table design s aliases a (ap is_none (sym (h.each s l)) ∙ ap (λ k. is_none (get_or codes k None)) (sym e) ∙ some)
 
-  -- an alias of a signal that has none
+  -- an alias of a signal that has no code
   pub alias_of_new : (code : Option ℕ) → is_none (get_or codes a.signal None) ≡ true → a.signal < length design.signals → code ≡ code_in_instance table design a.instance a.name (signal_of design a.signal).width → AreCodesAmong table design (aliases ++ a ∷ []) (set codes a.signal code)
   alias_of_new code none listed is = record {
     as_many = length-set codes a.signal code ∙ h.as_many;
@@ -152,7 +152,7 @@ within xs i x e =
       | inr w ↦ let none = w.1 in absurd (cc (none, e))
     ]
 
--- and one that has none
+-- and one that has no item
 pub beyond : {X : Type 0} (xs : List X) (i : ℕ) → slice_get xs i ≡ None → length xs ≤ i
 beyond xs i e =
     elim (slice_get_cases xs i).1 [

@@ -44,7 +44,7 @@ use Rattle.source_design.specs.declared.fault.SourceKind.TheVariants as kind
 use Rattle.source_design.specs.declared.stage.Found.{Found}
 use Rattle.source_design.specs.declared.stage.Found.TheVariants as found
 
--- sources stand for each design that is plainly the same
+-- sources represent each design that is plainly the same
 pub stand_for_same : (sources : List SourceText) (defines : List DefineText) (top : List ℕ) (x y : Design) → design_view y ≡ design_view x → StandFor sources defines top x → StandFor sources defines top y
 stand_for_same sources defines top x y same stands = record { modules = stands.modules; accepted = stands.accepted; flat = stands.flat ∙ ap Ok (sym same) }
 

@@ -1,4 +1,4 @@
--- Where the host tells its files, they decide what is read of the sources.
+-- Where the host gives its files, they decide what is read of the sources.
 use Rattle.std.proofs.Common.{◌≡◌, ℕ, suc, List, length, take, drop, Option, None, Some, Ok, Err, refl, sym, ap, subst, ◌∙◌, inl, inr}
 use Rattle.std.specs.Prelude.{IfSome, IsSome, MatchOption, Result}
 use Rattle.std.proofs.lemmas.List.{take-append-drop}
@@ -74,7 +74,7 @@ faulty_or_flat sources defines top modules design f accepted flat faulty =
     let same = one_list_of_modules sources defines faulty.modules modules faulty.accepted accepted in
     ok_or_err (answer modules top) design f flat (subst (λ ms. answer ms top ≡ Err f) same faulty.first)
 
--- no fault of the lexer, of the parser or of elaboration stands in sources that stand for a design
+-- there is no fault of the lexer, of the parser or of elaboration in sources that represent a design
 design_or_refused : (sources : List SourceText) (defines : List DefineText) (top : List ℕ) (design : Design) (refusal : SourceRefusal) → StandFor sources defines top design → AreRefused sources defines top refusal → ⊥
 design_or_refused sources defines top design refusal stands refused = go refusal.kind refused.place refusal.detail refused.found
   where
@@ -89,14 +89,14 @@ design_or_refused sources defines top design refusal stands refused = go refusal
     go (kind.Elab k) place (Some name) found = faulty_or_flat sources defines top stands.modules (design_view design) _ stands.accepted stands.flat found
     go (kind.Elab k) place None found = found
 
--- sources stand for one design
+-- sources represent one design
 pub one_design : (sources : List SourceText) (defines : List DefineText) (top : List ℕ) (a b : Design) → StandFor sources defines top a → StandFor sources defines top b → design_view a ≡ design_view b
 one_design sources defines top a b one other =
     let same = one_list_of_modules sources defines other.modules one.modules other.accepted one.accepted in
     let flat : answer one.modules top ≡ Ok (design_view b) = subst (λ ms. answer ms top ≡ Ok (design_view b)) same other.flat in
     one_ok (answer one.modules top) (design_view a) (design_view b) one.flat flat
 
--- sources in which a fault stands lack no file
+-- sources in which there is a fault lack no file
 refused_lack : (sources : List SourceText) (defines : List DefineText) (top : List ℕ) (refusal : SourceRefusal) → AreRefused sources defines top refusal → (name : List ℕ) → Lacks sources defines name → ⊥
 refused_lack sources defines top refusal refused name lacks = go refusal.kind refused.place refusal.detail refl refused.found
   where
@@ -118,7 +118,7 @@ refused_lack sources defines top refusal refused name lacks = go refusal.kind re
 none_or_some : (o : Option LexFault) (f : LexFault) → o ≡ None → o ≡ Some f → ⊥
 none_or_some o f none some = cc
 
--- ---- files that are told are read
+-- ---- files that are given are read
 
 not_missing_at : (files : Option Files) (name text : List ℕ) (P : Type 0) → IsSome files → IfSome files (λ files. files name ≡ Some text) → MatchOption files P (λ files. files name ≡ None) → ⊥
 not_missing_at None name text P told is missing = absurd cc
@@ -132,7 +132,7 @@ call_counted before after path text OpenWrite told is counted = absurd counted
 call_counted before after path text Write told is counted = absurd counted
 call_counted before after path text CloseWrite told is counted = absurd counted
 
--- the fault is none of a file that is not read
+-- the fault is not that of a file that is not read
 abbrev pub IsOfSources : SourceFault → Type 0
 IsOfSources (fault.File call file) = ⊥
 IsOfSources (fault.Included call path) = ⊥

@@ -1,4 +1,4 @@
--- What is read of the files of the words: a design, or why there is none.
+-- What is read of the files of the words: a design, or why there is no design.
 use Rattle.std.specs.Prelude.{◌≡◌, ◌⊎◌, ℕ, List, ◌∷◌, ◌++◌, length, map, None, Some}
 use Rattle.cov_host.specs.Outside.{Outside}
 use Rattle.verilog_lexer.specs.Sources.{AreWithinLimits, SourceText, refusal_of}

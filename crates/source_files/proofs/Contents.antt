@@ -86,7 +86,7 @@ joins before path name bytes root old new read none is =
       joined = is;
     }
 
--- a refusal to add a file tells no place
+-- a refusal to add a file gives no place
 no_place : (sources : List SourceText) (name : List ℕ) (bytes : ℕ) (kind : LexKind) (place : Option Place) (detail : Option (List ℕ)) → refusal_of sources name bytes ≡ Some (lex_fault.At kind place detail) → refusal_of sources name bytes ≡ Some (lex_fault.At kind None detail)
 no_place sources name bytes kind place detail is = go (length sources == 256) (nat_lt 67108864 (total_length sources + bytes)) is
   where

@@ -31,7 +31,7 @@ front_within sources others within =
       bytes = omega (arith, sum_by-append (λ s. length s.bytes) sources others, bytes);
     }
 
--- a source that stands behind others within the limits fits there
+-- a source that comes after others within the limits fits there
 front_fits : (sources others : List SourceText) (source : SourceText) (name : List ℕ) → AreWithinLimits (sources ++ source ∷ others) → refusal_of sources name (length source.bytes) ≡ None
 front_fits sources others source name within =
     let count : length (sources ++ source ∷ others) ≤ 256 = within.count in
@@ -92,7 +92,7 @@ root_there before names front others name roots stands are =
     let among = root_among before front others name roots (subst (λ l. AreRoots before l roots) stands are) in
     (among.source.bytes, among.is.text)
 
--- each file of the words fits behind the roots of those before it
+-- each file of the words fits after the roots of those before it
 pub root_fits : (before : Outside) (names front others : List (List ℕ)) (name text : List ℕ) (roots sources : List SourceText) → IsSome before.files → names ≡ front ++ name ∷ others → AreRoots before names roots → AreRoots before front sources
     → AreWithinLimits roots → IsFile before name text → refusal_of sources name (length text) ≡ None
 root_fits before names front others name text roots sources told stands are earlier within is =

@@ -29,7 +29,7 @@ TellsFile IncludeMissing (Some place) None = ⊥
 TellsFile IncludeMissing None detail = ⊥
 TellsFile other place detail = Unit {0}
 
--- an answer has what holds of its value, or a fault that tells a file
+-- an answer has what holds of its value, or a fault that names a file
 Fine : {A : Type 0} → (A → Type 0) → Answer A → Type 0
 Fine P (Ok value) = P value
 Fine P (Err lex_fault.NoMemory) = Unit {0}

@@ -43,6 +43,6 @@ same_digits (b ∷ bs) (c ∷ cs) e =
     let rest : map digit_of bs ≡ map digit_of cs = cc in
     ap₂ (λ x xs. x ∷ xs) (one_digit b c first) (same_digits bs cs rest)
 
--- the digits of a value tell its bits
+-- the digits of a value give its bits
 pub digits_apart : (v w : Vector) → digits_of v ≡ digits_of w → v.bits ≡ w.bits
 digits_apart v w e = sym (reverse-reverse v.bits) ∙ ap reverse (same_digits (reverse v.bits) (reverse w.bits) e) ∙ reverse-reverse w.bits

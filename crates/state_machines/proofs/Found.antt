@@ -52,7 +52,7 @@ found_value d cs is ss are i s name k e x v h l seen value =
     let there : In c d.constants = subst (λ (ys : List Constant). In c ys) is (in_at cs k no_constant h.0) in
     (c, there, h.1, h.2, value ∙ ap (λ (y : Signal). extended_vector y.width y.signed (get_or cs k e).value) x_is ∙ ap (λ (f : Constant). extended_vector (signal_at d s).width (signal_at d s).signed f.value) e_is)
 
--- where no parameter is found there is none
+-- where no parameter is found there is no parameter
 pub no_parameter : (d : Design) (cs : List Constant) → cs ≡ d.constants → (i : ℕ) (name : List ℕ) → ((k : ℕ) → IsConstantAt cs i name k → ⊥) → IsNoParameter d i name
 no_parameter d cs is i name none c there instance named =
     let p = place_of c cs no_constant (subst (λ (ys : List Constant). In c ys) (sym is) there) in

@@ -33,7 +33,7 @@ AreSignalsOf codes rows = (code s : ℕ) → Contains (row_at rows code) s ↔ (
 abbrev pub AreChangedSignals : List (Option ℕ) → Values → List ℕ → Type 0
 AreChangedSignals codes t changed = (s : ℕ) → Contains changed s ↔ ((code : ℕ) × (slice_index_or codes s None ≡ Some code) × IsChanged t code)
 
--- the lowest bit of a value, x where there is none
+-- the lowest bit of a value, x where there is no value
 abbrev pub lowest : Option Vector → Bit
 lowest None = X
 lowest (Some v) = slice_index_or v.bits 0 X

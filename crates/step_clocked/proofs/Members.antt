@@ -63,7 +63,7 @@ next_in [] i l = absurd (omega (arith, l))
 next_in (x ∷ xs) zero l = inl refl
 next_in (x ∷ xs) (suc i) l = inr (next_in xs i (omega (arith, l)))
 
--- of those so far the ones that pass are put behind the first
+-- of those so far the ones that pass are put after the first
 module _ (f : ℕ → Bool) (first ran before after : List ℕ) (p : ℕ) (taken : after ≡ before ++ p ∷ []) where
   ends : (b : Bool) → f p ≡ b → filter f after ≡ filter f before ++ (if b then p ∷ [] else [])
   ends b e = ap (filter f) taken ∙ filter-append f before (p ∷ []) ∙ ap (λ c. filter f before ++ (if c then p ∷ [] else [])) e

@@ -9,7 +9,7 @@ use Rattle.machine_laws.proofs.Followed.{follows, stay_seen}
 use Rattle.machine_laws.proofs.Told.{tells_all}
 use Rattle.step_machines.specs.Marked.{ClosedLaw}
 
--- when the states of all machines were told
+-- when the states of all machines were reported
 told_now : (listed told : Bool) → (not listed || told) ≡ true → listed ≡ true → told ≡ true
 told_now true told e l = e
 told_now false told e l = absurd (false≢true l)

@@ -156,7 +156,7 @@ module _ (d : Design) (ms : StateMachines) (ps : Points) (list : IsPointList d m
 -- ---- one signal after the other
 
 module _ (st : Closing) (ps : Points) (told : Bool) where
-  -- the machines of these are marked, and the states of all where none was told before
+  -- the machines of these are marked, and the states of all where no state was reported before
   abbrev pub MarksSome : List ℕ → List Verdict → List Verdict → Type 0
   MarksSome ss before after =
       MarksEach ps (λ p v. (let x = own_machine ps p in marked_if (is_in ss x.signal || (is_state p && not told)) x.signal st.time (step_chances st x p) v)) before after

@@ -65,7 +65,7 @@ MarksAll d ps k time before after =
 abbrev pub MarksThing : Closing → Points → ℕ → List Verdict → List Verdict → Type 0
 MarksThing st ps s before after = MarksEach ps (λ p v. (let x = own_machine ps p in marked_if (s == x.signal) s st.time (step_chances st x p) v)) before after
 
--- once the toggles and the machines are marked, the parts of the code are those of the replay after the step, and at a listed time each state was told
+-- once the toggles and the machines are marked, the parts of the code are those of the replay after the step, and at a listed time each state was reported
 abbrev pub ClosedLaw : Type 0
 ClosedLaw =
     (st : Closing) (machines : StateMachines) (ps : Points) (told : Bool) (x : Store) (v : StepVectors) (sets : WakeState) (acted : List Bool) (before middle after : Marks) (seen : List Toggles)

@@ -16,7 +16,7 @@ use Rattle.step_changes.specs.step_values.Starts.{HasValues}
 use Rattle.step_changes.specs.step_values.Vectors.{StepVectors}
 use Rattle.step_changes.specs.store_knowledge.Knows.{Knows}
 
--- the flag of a process, false where there is none
+-- the flag of a process, false where it has no flag
 abbrev pub flag_at : List Bool → ℕ → Bool
 flag_at flags p = slice_index_or flags p false
 

@@ -62,7 +62,7 @@ module _ (ranks : List (Option ℕ)) (front xs : List ℕ) (p : ℕ) (placed : A
     ],
   )
 
-  -- and one that has none
+  -- and one that has no place
   pub placed_left : has_place ranks p ≡ false → ArePlaced ranks (front ++ p ∷ []) xs
   placed_left none q = (
     λ c. let r = (placed q).0 c in (Contains-append_left front (p ∷ []) q r.0, r.1),

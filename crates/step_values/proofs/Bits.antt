@@ -54,7 +54,7 @@ module _ (d : Design) (k : Kept) (b : Bits) (ps qs : KnownBits) (blank : IsBlank
 
 -- ---- of what was made
 
--- a row of cells is as before where the test has none of its signal
+-- a row of cells is as before where the test holds of no cell of its signal
 pub row_kept : (t : Cell → Bool) (m : Kept) (s : ℕ) (js : List ℕ) → ((j : ℕ) → t (cell s j) ≡ false) → map (forgetting t m) (map (cell s) js) ≡ map m (map (cell s) js)
 row_kept t m s [] none = refl
 row_kept t m s (j ∷ js) none = ap₂ (λ p ps. p ∷ ps) (ap (λ b. if b then None else m (cell s j)) (none j)) (row_kept t m s js none)

@@ -32,7 +32,7 @@ coded_number : (codes : List (Option ℕ)) (x s : ℕ) (t : Bool) → (x == s) �
 coded_number codes x s false e coded = refl
 coded_number codes x s true e coded = sym (ap (has_code codes) (sym (eqb-true x s e)) ∙ coded)
 
--- one that has none
+-- one that has no code
 free_number : (codes : List (Option ℕ)) (x s : ℕ) (t : Bool) → (x == s) ≡ t → has_code codes x ≡ false → (t && has_code codes s) ≡ false
 free_number codes x s false e free = refl
 free_number codes x s true e free = ap (has_code codes) (sym (eqb-true x s e)) ∙ free

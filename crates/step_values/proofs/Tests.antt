@@ -57,7 +57,7 @@ module _ (codes : List (Option ℕ)) (b : Bits) (c : Cell) where
   pub coded_bits : has_code codes b.signal ≡ true → uncoded codes (has_bit b) c ≡ false
   coded_bits coded = coded_at (b.signal == c.thing) refl coded
 
-  -- one that has none
+  -- one that has no code
   free_at : (t : Bool) → (b.signal == c.thing) ≡ t → has_code codes b.signal ≡ false → ((t && is_set b.mask c.place) && not (has_code codes c.thing)) ≡ (t && is_set b.mask c.place)
   free_at false e free = refl
   free_at true e free = ap (λ x. is_set b.mask c.place && not x) (ap (has_code codes) (sym (eqb-true b.signal c.thing e)) ∙ free) ∙ and_yes (is_set b.mask c.place)

@@ -27,7 +27,7 @@ pub record Adds (n : ℕ → ℕ) (before after : TargetCounts) : Type 0 where
   pub order : after.order.items ≡ before.order.items ++ more
   pub has_more : (x : ℕ) → x < length before.counts.items → has x more ≡ nat_le 1 (n x)
 
--- each was named so many times more; two times and more are not told apart
+-- each was named so many times more; twice and more often count as the same
 pub record Counts (n : ℕ → ℕ) (before after : TargetCounts) : Type 0 where
   pub adds : Adds n before after
   pub is : (x : ℕ) → x < length before.counts.items → min 2 (count_at after x) ≡ min 2 (count_at before x + n x)

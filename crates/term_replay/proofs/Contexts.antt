@@ -253,7 +253,7 @@ module _ (d : Design) where
       let most : c.width ≤ 128 = (context_head (repeat h n ts) c).at_most in
       record { count = alone n p1.1; fixed = p2.1; parts = p3.1; room = omega (arith, narrow, most) }
 
--- terms that stand alone have the bits of their widths
+-- terms that are alone have the bits of their widths
 pub length-joined : (d : Design) (k : Kept) (ts : Terms) → are_alone d ts ≡ true → length (known_joined d k ts) ≡ own_widths d ts
 length-joined d k no_terms e = refl
 length-joined d k (a_term x ts) e =

@@ -1,4 +1,4 @@
--- Bits and parts: what the selects give stands for the term.
+-- Bits and parts: what the selects give represents the term.
 use Rattle.std.proofs.Common.{◌≡◌, ◌∙◌, ℕ, Bool, false, [], Option, Some, None, ℤ, sym, ap}
 use Rattle.std.specs.Prelude.{IsTrue}
 use Rattle.four_state.specs.declared.bit.Bit.TheVariants.{X}

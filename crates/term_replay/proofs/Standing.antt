@@ -1,4 +1,4 @@
--- What each form of a term gives stands for the term.
+-- What each form of a term gives represents the term.
 use Rattle.std.proofs.Common.{◌≡◌, ◌∙◌, ℕ, Bool, true, false, if◌then◌else◌, List, [], Option, Some, None, length, refl, sym, ap, ap₂, subst, suc, zero, ◌∷◌}
 use mathlib.Core.Bool.{beq}
 use Rattle.std.specs.Prelude.{IsTrue}

@@ -17,7 +17,7 @@ blame_in Yes = 0
 blame_in No = 0
 blame_in (Unsure thing) = thing
 
--- the answer, blamed on this thing where there is none
+-- the answer, blamed on this thing where there is no answer
 pub record IsAnswer (answer : Option Bool) (thing : ℕ) (m : Maybe) : Type 0 where
   pub is : answer_of m ≡ answer
   pub blame : answer ≡ None → blame_in m ≡ thing

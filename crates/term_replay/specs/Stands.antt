@@ -1,4 +1,4 @@
--- What a partly known vector stands for: the value of a term on what is known, with its sign and its blame.
+-- What a partly known vector represents: the value of a term on what is known, with its sign and its blame.
 use Rattle.std.specs.Prelude.{◌≡◌, ◌≤◌, ℕ, Bool, true, false, List, [], map, Option, Some, None}
 use Rattle.four_state.specs.declared.bit.Bit.{Bit}
 use Rattle.four_state.specs.Arithmetic.{natural}
@@ -77,7 +77,7 @@ pub record IsInContext (d : Design) (t : Term) : Type 0 where
   pub shaped : is_shaped d width signed t ≡ true
   pub narrow : own_width d t ≤ width
 
--- each term stands alone, and side by side they have at most 128 bits
+-- each term is alone, and side by side they have at most 128 bits
 pub record AreSideBySide (d : Design) (ts : Terms) : Type 0 where
   pub alone : are_alone d ts ≡ true
   pub narrow : own_widths d ts ≤ 128

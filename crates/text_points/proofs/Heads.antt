@@ -36,6 +36,6 @@ cases_some o x n is =
     let number : (head v).node ≡ Some n = ap (λ h. h.node) (head_is x) ∙ is in
     ap (λ m. numbered_cases o m v) number ∙ ap (λ h. map (node_at o n h.place (operator_of v)) (node_cases v)) (head_is x)
 
--- a term without a number has none
+-- a term without a number has no cases
 pub cases_none : (o : Owner) (x : Term) → x.node ≡ None → cases_with o (term_view x) ≡ []
 cases_none o x is = ap (λ m. numbered_cases o m (term_view x)) (ap (λ h. h.node) (head_is x) ∙ is)

@@ -18,7 +18,7 @@ pub record IsPlaceOf (x : Signal) (i place : ℕ) : Type 0 where
   pub below : nat_le x.low x.high ≡ false → place ≤ x.low
   pub plain : x.ranged ≡ false → x.width ≤ 1
 
--- a signal's width, and its range where it has none
+-- a signal's width, and its range where it has no range of its own
 pub record IsShaped (x : Signal) : Type 0 where
   pub width : x.width ≡ span x.high x.low
   pub plain : x.ranged ≡ false → (x.high ≡ 0) × (x.low ≡ 0)

@@ -28,7 +28,7 @@ abbrev pub common_bit : Option Bit → List (Option Bit) → Option Bit
 common_bit q [] = q
 common_bit q (p ∷ ps) = common_bit (join_bit q p) ps
 
--- what these bits have in common; x where there are none
+-- what these bits have in common; x where there are no bits
 abbrev pub common_bits : List (Option Bit) → Option Bit
 common_bits [] = Some X
 common_bits (p ∷ ps) = common_bit p ps

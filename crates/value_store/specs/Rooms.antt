@@ -84,7 +84,7 @@ abbrev pub most_logged : (ℕ → ℕ) → List Process → ℕ
 most_logged takes [] = 0
 most_logged takes (p ∷ ps) = max (logged takes false (body p)) (most_logged takes ps)
 
--- a number as a `usize` has it: the greatest one stands for all that are greater
+-- a number as a `usize` has it: the greatest one represents all that are greater
 abbrev pub as_usize : ℕ → ℕ
 as_usize n = min n (2 ^ 64 - 1)
 

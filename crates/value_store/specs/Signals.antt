@@ -17,11 +17,11 @@ pub record Signals : Type 0 where
   pub kept : List Partly
   pub hidden : List (Option Partly)  -- what bodies read in the place of what is kept, where the signal is shown or veiled
 
--- what stands for a shape that a store does not have
+-- what represents a shape that a store does not have
 abbrev pub no_shape : Shape
 no_shape = record { range = record { high = 0; low = 0 }; width = 0; signed = false }
 
--- what stands for the value of a signal that a store does not have
+-- what represents the value of a signal that a store does not have
 abbrev pub no_value : Partly
 no_value = record { bits = []; signed = false; blame = 0 }
 

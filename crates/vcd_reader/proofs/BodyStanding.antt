@@ -1,4 +1,4 @@
--- The reader of a body behind one byte more, or at the end.
+-- The reader of a body after one byte more, or at the end.
 use Rattle.std.proofs.Common.{◌≡◌, ℕ, ◌+◌, ◌-◌, ◌<◌, ◌≤◌, Bool, true, false, List, [], ◌∷◌, ◌++◌, length, take, Option, Some, None, Result, Ok, Err, refl, sym, ap, subst, ◌∙◌, append_assoc, inl, inr, arith}
 use Rattle.std.specs.Prelude.{◌||◌}
 use Rattle.std.specs.Option.{option_to_list}
@@ -47,7 +47,7 @@ pub gives_err : (f : Filter) (kept : ReadingRow) (found : DumpFault) (answer : A
 gives_err f kept found (Ok said) gives = absurd gives
 gives_err f kept found (Err other) gives = ap (λ (g : DumpFault). let answer : Answer Said = Err g in answer) (sym gives)
 
--- no word stands anywhere
+-- an empty word may be at any offset
 pub last_said-at : (table : List Code) (reading : BodyReading) (at other : ℕ) (word : List ℕ) → (0 < length word → at ≡ other) → last_said table reading at word ≡ last_said table reading other word
 last_said-at table reading at other [] same = refl
 last_said-at table reading at other (byte ∷ word) same = ap (λ (k : ℕ). last_said table reading k (byte ∷ word)) (same (omega arith))
@@ -79,7 +79,7 @@ read_err reader text b s f e = read_last reader text b s ∙ ap (after_body_word
 pub nothing_passed : (f : Filter) (b : Body) (P : Body → Type 0) → P b → Passing f b P
 nothing_passed f b P p = record { passed = []; unheard = All-nil (IsPassed f); then = subst (λ (items : List Entry). P (record b { items = items })) (sym (append-nil b.items)) p }
 
--- what holds behind the same changes
+-- what holds after the same changes
 pub passing_on : (f : Filter) (b : Body) (P Q : Body → Type 0) → ((m : Body) → P m → Q m) → Passing f b P → Passing f b Q
 passing_on f b P Q step p = record { passed = p.passed; unheard = p.unheard; then = step (saying_more b p.passed) p.then }
 
@@ -156,7 +156,7 @@ space_said f old new text space b says white s reads room codes at word going =
       said = record { items = refl; vars = refl };
     })
 
--- a fault directly behind the text
+-- a fault directly after the text
 behind_text : (text word : List ℕ) (byte : ℕ) (b : Body) (f : DumpFault) → Stands text (body b) word → HasFault (text ++ byte ∷ []) f → IsBehind (text ++ byte ∷ []) b f
 behind_text text word byte b f stands found = record { before = text; byte = byte; rest = []; now = record { last = b; word = word; stands = stands; items = refl; vars = refl }; split = refl; fault = found }
 
@@ -193,7 +193,7 @@ pushed old new text byte b black s room codes at reading word place going =
       goes_on = going ∙ s.goes_on;
     }
 
--- where the word stands with one byte more
+-- where the word is with one byte more
 pub placed : (reader : BodyReader) (text : List ℕ) (b : Body) (s : BodyStands reader text b) (place byte : ℕ) → (length s.word ≡ 0 → place ≡ reader.at) → (0 < length s.word → place ≡ reader.word_at) → place + length (s.word ++ byte ∷ []) ≡ length text + 1
 placed reader text b s place byte none some =
     let long = s.at in
@@ -262,7 +262,7 @@ says_then f says earlier reader before text b first later = record {
   };
 }
 
--- what stands behind the same said, where nothing more was said
+-- what follows the same said, where nothing more was said
 pub behind_said : (text : List ℕ) (b next m : Body) (f : DumpFault) → next.items ≡ m.items → next.vars ≡ m.vars → IsBehind text next f → IsBehind text m f
 behind_said text b next m f items vars is = record {
   before = is.before;
@@ -273,7 +273,7 @@ behind_said text b next m f items vars is = record {
   fault = is.fault;
 }
 
--- a fault behind what was passed over
+-- a fault after what was passed over
 pub passing_fault : (f : Filter) (reader : BodyReader) (before text : List ℕ) (b : Body) (found : DumpFault) (first : Passing f b (SaysNext None reader before)) → IsBehind text first.then.next found → Passing f b (λ m. IsBehind text m found)
 passing_fault f reader before text b found first is = record {
   passed = first.passed;

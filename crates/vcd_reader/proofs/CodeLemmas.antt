@@ -1,4 +1,4 @@
--- Where codes stand in a list, also after one was put in.
+-- Where codes are in a list, also after one was put in.
 use Rattle.std.proofs.Common.{◌≡◌, ◌∙◌, ap, refl, inl, inr, ℕ, suc, ◌<◌, Bool, true, false, arith, List, [], ◌∷◌, ◌++◌, length, if◌then◌else◌, cond, bytes_eq, Option, Some, None, slice_index_or, slice_set}
 use Rattle.std.proofs.lemmas.Bool.{cases_Bool}
 use Rattle.std.proofs.lemmas.Slice.Eq.{bytes_eq-Decides}
@@ -13,7 +13,7 @@ use Rattle.vcd_reader.specs.declared.codes.Code.{Code as CodeRow}
 some_is : (a b : ℕ) → Some a ≡ Some b → a ≡ b
 some_is a b e = cc
 
--- where a code stands behind another
+-- where a code is after another
 behind : (place : Option ℕ) → option_map suc place ≡ None → place ≡ None
 behind None e = refl
 behind (Some place) e = cc
@@ -103,7 +103,7 @@ joined_place true false found count apart = refl
 joined_place false true found count apart = refl
 joined_place false false found count apart = refl
 
--- a new code stands behind all others
+-- a new code is after all others
 pub place_of-push : (codes : List Code) (new : Code) → place_of codes new.text ≡ None → (text : List ℕ)
     → place_of (codes ++ new ∷ []) text ≡ (if bytes_eq text new.text then Some (length codes) else place_of codes text)
 place_of-push [] new none text = refl

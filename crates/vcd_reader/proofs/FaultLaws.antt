@@ -12,7 +12,7 @@ use Rattle.vcd_reader.proofs.TextLemmas.{meaning-append, meaning_behind, black-f
 
 -- ---- words in order
 
--- the words stand one behind the other from this offset on, and none is empty
+-- the words are one after the other from this offset on, and no word is empty
 abbrev pub AreInOrder : ℕ → List Word → Type 0
 AreInOrder at [] = Unit {0}
 AreInOrder at (word ∷ words) = (at ≤ word.at) × (1 ≤ length word.bytes) × AreInOrder (word.at + 1) words
@@ -46,7 +46,7 @@ some_between : (byte : ℕ) (front : List ℕ) → is_white_space byte ≡ false
 some_between byte [] black whole = absurd (let no : false ≡ true = sym black ∙ whole in cc)
 some_between byte (b ∷ front) black whole = omega arith
 
--- whole words, and then what comes behind them
+-- whole words, and then what comes after them
 words_from-append : (before : Bool) (at : ℕ) (front rest : List ℕ) → ends_open before front ≡ true → words_from at (front ++ rest) ≡ words_from at front ++ words_from (at + length front) rest
 words_from-append before at [] rest whole = let same : at ≡ at + length {A = ℕ} [] = omega arith in ap (λ (k : ℕ). words_from k rest) same
 words_from-append before at (byte ∷ front) rest whole =
@@ -61,7 +61,7 @@ words_from-append before at (byte ∷ front) rest whole =
 
 -- ---- no room
 
--- where there is no room for so many bytes, there is none behind further words
+-- where there is no room for so many bytes, there is no room after further words
 stopped_stays : (means : Meaning) (count : ℕ) (words : List Word) → 1 ≤ count → room_of means < count → AreInOrder count words → room_of (meaning_after means words) < count
 stopped_stays means count [] some full order = full
 stopped_stays means count (word ∷ words) some full order =
@@ -95,7 +95,7 @@ goes_on before (byte ∷ whole) rest (first ∷ front) word ends black same =
     let further = goes_on (is_white_space byte) whole rest front word ends black tails in
     record { more = further.more; is = ap (λ (b : ℕ). b ∷ front) (sym heads) ∙ ap (λ (t : List ℕ). byte ∷ t) further.is; rest_is = further.rest_is }
 
--- what whole words mean with more behind them
+-- what whole words mean with more after them
 pub meaning-further : (front more : List ℕ) → IsWhole front → meaning_of (words_of (front ++ more)) ≡ meaning_after (meaning_of (words_of front)) (words_from (length front) more)
 meaning-further front more whole =
     let same : 0 + length front ≡ length front = omega arith in
@@ -113,7 +113,7 @@ is_empty (byte ∷ bytes) none = absurd (omega arith)
 
 -- ---- a fault excludes that reading goes on
 
--- white space behind which there is no room
+-- white space after which there is no room
 behind_excluded : (before rest word text_word : List ℕ) (means next : Meaning) (space : ℕ) (m : Meaning) → Stands before means word → is_white_space space ≡ true → after means (length before) word ≡ next → room_of next ≤ length before
     → Stands (before ++ space ∷ rest) m text_word → ⊥
 behind_excluded before rest word text_word means next space m s white e full stands =
@@ -278,7 +278,7 @@ dump_excludes text b f e (cut_short t word means s is) =
 
 -- ---- one fault
 
--- the fault that stands where a byte leaves no room
+-- the fault that is where a byte leaves no room
 abbrev pub stop_at : Meaning → ℕ → List ℕ → ℕ → DumpFault
 stop_at means end word byte = cond (is_white_space byte) (stop_of (after means end word)) (stop_of means)
 

@@ -1,4 +1,4 @@
--- The reader of a header behind one byte more, or at the end.
+-- The reader of a header after one byte more, or at the end.
 use Rattle.std.proofs.Common.{◌≡◌, ℕ, ◌+◌, ◌<◌, ◌≤◌, Bool, true, false, cond, List, [], ◌∷◌, ◌++◌, length, take, drop, get_or, Ok, refl, sym, ap, subst, ◌∙◌, append_assoc, arith}
 use Rattle.std.proofs.lemmas.List.{length-append, append-nil, take_more, take-append-drop}
 use Rattle.vcd_reader.specs.Words.{is_white_space}
@@ -23,7 +23,7 @@ going_means Going reader text going means = means
 going_means Done reader text going means = absurd cc
 going_means AtEnd reader text going means = absurd cc
 
--- a fault that stands directly behind a header that goes on is one of the header
+-- a fault that is directly after a header that goes on is one of the header
 found_behind : (text word : List ℕ) (reading : HeaderReading) (byte : ℕ) (kind : DumpKind) (at : ℕ) → Stands text (header reading) word → HasFault (text ++ byte ∷ []) (At kind at) → IsFoundFault (text ++ byte ∷ []) (At kind at)
 found_behind text word reading byte kind at stands has = (has, header_says_none text word reading byte (At kind at) stands has)
 

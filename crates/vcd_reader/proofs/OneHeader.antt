@@ -82,7 +82,7 @@ two_fronts (x ∷ a) b (y ∷ c) d e =
 pub begins_in : (text more : List ℕ) (b : Body) (begun : BeginsAs text b) (front : List ℕ) → front ≡ begun.front ++ more → BeginsAs front b
 begins_in text more b begun front e = record { front = begun.front; rest = more; word = begun.word; split = e; stands = begun.stands }
 
--- a fault that stands directly behind a header that goes on
+-- a fault that is directly after a header that goes on
 pub header_says_none : (text word : List ℕ) (reading : HeaderReading) (byte : ℕ) (f : DumpFault) → Stands text (header reading) word → HasFault (text ++ byte ∷ []) f → HasNoBody (text ++ byte ∷ [])
 header_says_none text word reading byte f stands has b (inr ended) = fault_excludes (text ++ byte ∷ []) f has ended.means ended.word ended.stands
 header_says_none text word reading byte f stands has b (inl begun) =
@@ -98,7 +98,7 @@ pub header_ends_none : (text word : List ℕ) (reading : HeaderReading) (f : Dum
 header_ends_none text word reading f stands ends b (inr ended) = dump_excludes text b f ended ends
 header_ends_none text word reading f stands ends b (inl begun) = begun_keeps text b begun (header reading) word stands
 
--- no body comes behind a fault
+-- no body comes after a fault
 pub none_stays : (text more : List ℕ) (f : DumpFault) → HasFault text f → HasNoBody text → HasNoBody (text ++ more)
 none_stays text more f has none b (inr ended) = fault_excludes (text ++ more) f (fault_stays text more f has) ended.means ended.word ended.stands
 none_stays text more f has none b (inl begun) =

@@ -61,7 +61,7 @@ and_right : (a b : Bool) → (a && b) ≡ true → b ≡ true
 and_right true b p = p
 and_right false b p = cc
 
--- a byte of a short code and the bytes behind it are told by its number
+-- a byte of a short code and the bytes after it are known by its number
 byte_of_number : (a b m n : ℕ) → is_printable a ≡ true → is_printable b ≡ true → (a - 32) + 94 * m ≡ (b - 32) + 94 * n → (a ≡ b) × (m ≡ n)
 byte_of_number a b m n p q e = (grind (arith, nat_tests), grind (arith, nat_tests))
 
@@ -86,7 +86,7 @@ short_printable (a ∷ b ∷ []) short = short
 short_printable (a ∷ b ∷ c ∷ []) short = short
 short_printable (a ∷ b ∷ c ∷ d ∷ others) short = cc
 
--- short codes are told by their numbers
+-- short codes are known by their numbers
 short_told : (text bytes : List ℕ) → is_short text ≡ true → is_short bytes ≡ true → (code_number text == code_number bytes) ≡ bytes_eq text bytes
 short_told text bytes p q =
     elim (cases_Bool (bytes_eq text bytes)) [
@@ -113,7 +113,7 @@ short_number_is bytes number is =
       | inr long ↦ absurd (some_none number _ (rw long refl) is)
     ]
 
--- where codes stand after the place of a short one is set
+-- where codes are after the place of a short one is set
 pub place_in-set : (before after : Places) (bytes : List ℕ) (number place : ℕ) → Some number ≡ (if is_short bytes then Some (code_number bytes) else None) → after.long ≡ before.long
     → ((other : ℕ) → place_at after.short.items other ≡ (if other == number then Some place else place_at before.short.items other))
     → (text : List ℕ) → place_in after text ≡ (if bytes_eq text bytes then Some place else place_in before text)

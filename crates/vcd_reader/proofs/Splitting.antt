@@ -1,4 +1,4 @@
--- The body behind a header.
+-- The body after a header.
 use Rattle.std.proofs.Common.{◌≡◌, ℕ, false, List, [], length, Option, None, refl, sym, subst}
 use Rattle.vcd_reader.specs.Body.{start_body}
 use Rattle.vcd_reader.specs.Reading.{Body, body, body_after}

@@ -39,7 +39,7 @@ words_from-black at (byte ∷ next ∷ word) black =
     let rest = words_from-black (at + 1) (next ∷ word) b.1 in
     ap (λ v. cond v (words_from (at + 1) (next ∷ word)) (joined at byte (words_from (at + 1) (next ∷ word)))) b.0 ∙ ap (joined at byte) rest ∙ joined-next at byte (next ∷ word) []
 
--- a byte joins a word that begins directly behind it, and no word further on
+-- a byte joins a word that begins directly after it, and no word further on
 joined-append : (at byte further : ℕ) (words : List Word) (word : List ℕ) → (words ≡ [] → at + 2 ≤ further) → joined at byte (words ++ word_at further word) ≡ joined at byte words ++ word_at further word
 joined-append at byte further [] [] apart = refl
 joined-append at byte further [] (next ∷ word) apart = let away = apart refl in let no : eqb further (at + 1) ≡ false = grind (arith, nat_tests, away) in rw no refl
@@ -51,7 +51,7 @@ some_between : (byte : ℕ) (front : List ℕ) → is_white_space byte ≡ false
 some_between byte [] black whole = absurd (let no : false ≡ true = sym black ∙ whole in cc)
 some_between byte (b ∷ front) black whole = omega arith
 
--- behind whole words a word is one more
+-- after whole words a word is one more
 words_from-word : (before : Bool) (at : ℕ) (front word : List ℕ) → ends_open before front ≡ true → IsBlack word → words_from at (front ++ word) ≡ words_from at front ++ word_at (at + length front) word
 words_from-word before at [] word whole black = let same : at ≡ at + length {A = ℕ} [] = omega arith in words_from-black at word black ∙ ap (λ (k : ℕ). word_at k word) same
 words_from-word before at (byte ∷ front) word whole black =
@@ -79,12 +79,12 @@ meaning_at_end text word means s =
 longer : (text : List ℕ) (byte : ℕ) → length (text ++ byte ∷ []) ≡ length text + 1
 longer text byte = length-append text (byte ∷ [])
 
--- behind white space the text is whole words, whose meaning is known
+-- after white space the text is whole words, whose meaning is known
 pub meaning_behind : (text word : List ℕ) (means next : Meaning) (space : ℕ) → Stands text means word → is_white_space space ≡ true → after means (length text) word ≡ next → IsWhole (text ++ space ∷ []) × (meaning_of (words_of (text ++ space ∷ [])) ≡ next)
 meaning_behind text word means next space s white e =
     (ends-push true text space ∙ white, ap (λ (words : List Word). meaning_of words) (words_from-space 0 text space white) ∙ meaning_at_end text word means s ∙ e)
 
--- behind white space the text is whole words
+-- after white space the text is whole words
 pub stands_behind : (text word : List ℕ) (means next : Meaning) (space : ℕ) → Stands text means word → is_white_space space ≡ true → after means (length text) word ≡ next → length text + 1 ≤ room_of next → Stands (text ++ space ∷ []) next []
 stands_behind text word means next space s white e room = record {
   front = text ++ space ∷ [];
@@ -111,7 +111,7 @@ stands_byte text word means byte s black room = record {
 
 -- ---- faults
 
--- a fault stands there whatever comes behind it
+-- a fault stays there whatever comes after it
 pub fault_stays : (text more : List ℕ) (f : DumpFault) → HasFault text f → HasFault (text ++ more) f
 fault_stays text more f (behind_a_word before word rest means next space s white e room) = subst (λ (t : List ℕ). HasFault t (stop_of next)) (sym (append_assoc before (space ∷ rest) more)) (behind_a_word before word (rest ++ more) means next space s white e room)
 fault_stays text more f (in_a_word before word rest means byte s black room) = subst (λ (t : List ℕ). HasFault t (stop_of means)) (sym (append_assoc before (byte ∷ rest) more)) (in_a_word before word (rest ++ more) means byte s black room)

@@ -1,4 +1,4 @@
--- The reader of a body behind a whole change of a vector.
+-- The reader of a body after a whole change of a vector.
 use Rattle.std.proofs.Common.{◌≡◌, ℕ, ◌+◌, ◌<◌, ◌≤◌, Bool, true, false, List, [], ◌∷◌, ◌++◌, length, Option, Ok, Err, refl, sym, ap, subst, ◌∙◌, append_assoc, arith}
 use Rattle.std.specs.Prelude.{◌==◌, nat_lt}
 use Rattle.std.specs.List.{list_all}
@@ -31,13 +31,13 @@ use Rattle.vcd_reader.proofs.TextLemmas.{stands_behind}
 use Rattle.vcd_reader.proofs.BodyStanding.{after_body, last_said-at, passing_next}
 use Rattle.vcd_reader.proofs.WholeWords.{none_kept, stands_word}
 
--- a word and white space behind a text
+-- a word and white space after a text
 word_stands : (text word : List ℕ) (space : ℕ) (b next : Body) → Stands (text ++ word) (body b) word → is_white_space space ≡ true → length text + length word < 1099511627776
     → after (body b) (length (text ++ word)) word ≡ body next → Stands (text ++ (word ++ space ∷ [])) (body next) []
 word_stands text word space b next s white room means =
     subst (λ (t : List ℕ). Stands t (body next) []) (append_assoc text word (space ∷ [])) (stands_behind (text ++ word) word (body b) (body next) space s white means (omega (arith, room, length-append text word)))
 
--- what a word behind a text means
+-- what a word after a text means
 word_means : (text word : List ℕ) (b : Body) → Stands (text ++ word) (body b) word → after (body b) (length (text ++ word)) word ≡ after_body_word b (last_said b.codes b.reading (length text) word)
 word_means text word b s = after_body (text ++ word) word b s ∙ ap (after_body_word b) (last_said-at b.codes b.reading _ (length text) word (λ some. omega (arith, length-append text word)))
 
@@ -84,7 +84,7 @@ code_said : (table : List Code) (reading : BodyReading) (first : Word) (at : ℕ
 code_said table reading first at [] some = absurd (omega (arith, some))
 code_said table reading first at (byte ∷ code) some = refl
 
--- the two words of a change of a vector behind a text
+-- the two words of a change of a vector after a text
 module _ (f : Filter) (old : BodyReader) (text word code : List ℕ) (letter space end : ℕ) (b : Body) (is_letter : is_vector_letter letter ≡ true) (some : 0 < length word) (each : list_all is_digit word ≡ true)
     (black : IsBlack (letter ∷ word)) (white : is_white_space space ≡ true) (code_some : 0 < length code) (code_black : IsBlack code) (code_white : is_white_space end ≡ true)
     (room : old.at + length word + length code + 3 ≤ 1099511627776) (none : old.word ≡ word_row.None) (rest : old.reading.begun ≡ begun_row.Nothing) (s : BodyStands old text b) where

@@ -1,4 +1,4 @@
--- The reader of a body behind a whole word and white space.
+-- The reader of a body after a whole word and white space.
 use Rattle.std.proofs.Common.{◌≡◌, ℕ, zero, suc, ◌+◌, ◌-◌, ◌<◌, ◌≤◌, true, false, List, [], ◌∷◌, ◌++◌, length, take, drop, get_or, Some, Result, Ok, Err, refl, sym, ap, subst, ◌∙◌, append_assoc, arith}
 use Rattle.std.specs.List.{position}
 use Rattle.std.proofs.lemmas.List.{length-append, append-nil, take_more, take-append-drop}
@@ -35,7 +35,7 @@ stands_word text word (byte ∷ more) means s black room =
 pub none_kept : (reader : BodyReader) (text : List ℕ) (b : Body) (s : BodyStands reader text b) → reader.word ≡ word_row.None → s.word ≡ []
 none_kept reader text b s none = subst (λ w. IsWord w (has_begun b.reading.begun) s.word) none s.kept
 
--- a whole word behind the text
+-- a whole word after the text
 stands_whole : (reader : BodyReader) (text word : List ℕ) (b : Body) → reader.word ≡ word_row.None → IsBlack word → BodyStands reader text b → reader.at + length word < 1099511627776 → Stands (text ++ word) (body b) word
 stands_whole reader text word b none black s room =
     let at = s.at in
@@ -101,7 +101,7 @@ black_front bytes zero within each = refl
 black_front [] (suc count) within each = absurd (omega (arith, within))
 black_front (byte ∷ bytes) (suc count) within each = rw (each 0 (omega arith)) (black_front bytes count (omega (arith, within)) (λ k less. each (suc k) (omega (arith, less))))
 
--- the word that a piece begins with, and the white space behind it
+-- the word that a piece begins with, and the white space after it
 pub record IsFront (piece : List ℕ) (count : ℕ) : Type 0 where
   pub within : count < length piece
   pub black : IsBlack (take count piece)

@@ -179,7 +179,7 @@ word_after table comment word past = Ok (if bytes_eq word.bytes END then said No
 abbrev pub next_word : List Code → BodyReading → Word → Answer Said
 next_word table reading word = word_after table reading.begun word reading.past
 
--- the next word has these bytes, or there is none
+-- the next word has these bytes, or there is no next word
 abbrev pub last_said : List Code → BodyReading → ℕ → List ℕ → Answer Said
 last_said table reading at [] = Ok (None, reading)
 last_said table reading at (byte ∷ bytes) = next_word table reading (record { at = at; bytes = byte ∷ bytes })

@@ -73,7 +73,7 @@ pub record SaysNow (text : List ℕ) (b : Body) : Type 0 where
   pub items : last.items ≡ b.items
   pub vars : last.vars ≡ b.vars
 
--- the first fault of the text is directly behind a place up to which the text says what this body has said, and no more
+-- the first fault of the text is directly after a place up to which the text says what this body has said, and no more
 pub record IsBehind (text : List ℕ) (b : Body) (f : DumpFault) : Type 0 where
   pub before : List ℕ
   pub byte : ℕ

@@ -86,7 +86,7 @@ variable_fault table (kind ∷ []) word = fault_if (is_none (size_of word.bytes)
 variable_fault table (kind ∷ size ∷ []) word = code_fault table (size_of size) word
 variable_fault table _ word = None
 
--- The next field of a section, after these: a scope has at most two, and one that opens none, or the last, has none.
+-- The next field of a section, after these: a scope has at most two, and the end of a scope or of the definitions has no fields.
 abbrev pub field_fault : List Code → Keyword → List (List ℕ) → Word → Option DumpFault
 field_fault table Scope fields word = fault_if (nat_le 2 (length fields)) BadHeader word.at
 field_fault table Upscope fields word = Some (At BadHeader word.at)

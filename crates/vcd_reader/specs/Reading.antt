@@ -54,7 +54,7 @@ word_in declared (Some section) word = section_word declared section word
 abbrev pub header_word : HeaderReading → Word → Answer (Bool × HeaderReading)
 header_word reading word = word_in reading.declared reading.section word
 
--- the next word of the header has these bytes and ends here, or there is none
+-- the next word of the header has these bytes and ends here, or there is no next word
 abbrev pub last_word : HeaderReading → ℕ → List ℕ → Answer (Bool × HeaderReading)
 last_word reading end [] = Ok (false, reading)
 last_word reading end (byte ∷ bytes) = header_word reading (record { at = end - length (byte ∷ bytes); bytes = byte ∷ bytes })

@@ -57,7 +57,7 @@ is_open (header reading) = true
 is_open (body b) = has_begun b.reading.begun
 is_open (fault f) = false
 
--- the first fault of a text that ends, where there is none before its last word
+-- the first fault of a text that ends, where there is no fault before its last word
 pub data EndsWithFault : List ℕ → DumpFault → Type 0 where
   in_the_last_word : (text word : List ℕ) (means : Meaning) (f : DumpFault) → Stands text means word → is_alone means word ≡ false
       → after means (length text) word ≡ fault f → EndsWithFault text f

@@ -6,7 +6,7 @@ use Rattle.vcd_reader.specs.declared.declarations.Declarations.{Declarations}
 use Rattle.vcd_reader.specs.declared.sections.Section.{Section as SectionRow}
 use Rattle.vcd_reader.specs.declared.sections.Sections.{Sections}
 
--- the name of a scope, which is empty where there is none
+-- the name of a scope, which is empty where there is no name
 abbrev pub scope_text : Option (List ℕ) → List ℕ
 scope_text name = unwrap_or name []
 

@@ -15,7 +15,7 @@ use Rattle.vcd_reader.specs.declared.item.Saying.{Saying}
 abbrev pub kept_value : BodyRow → Vector
 kept_value body = body.reader.reading.change.value
 
--- the next piece has the first fault of the text, behind changes of codes that are not wanted and nothing else
+-- the next piece has the first fault of the text, after changes of codes that are not wanted and nothing else
 pub record FailsTo (wanted : List Bool) (text piece : List ℕ) (b : Body) (f : DumpFault) : Type 0 where
   pub passed : List Entry
   pub unwanted : All (IsUnwanted wanted) passed

@@ -1,4 +1,4 @@
--- What reading gives, step by step: each rule says it of a step where it holds of what is behind.
+-- What reading gives, step by step: each rule says it of a step where it holds of what follows.
 use Rattle.std.proofs.Common.{◌≡◌, Bool, true, false, if◌then◌else◌, Result, Ok, List, [], ◌∷◌, length, refl}
 use Rattle.verilog_lexer.specs.Tokens.{Lexeme}
 use Rattle.grammar_rules.specs.Rule.{Fault as AnyFault, next, member, deep, ◌>>=◌}
@@ -16,7 +16,7 @@ pub first_fails : {A B : Type 0} (e : ReadFault) (x : Result A (AnyFault verilog
 first_fails read_fault.Memory x k h = tt
 first_fails (read_fault.At f) x k h = rw h refl
 
--- a step that gives a value, and what is behind fails
+-- a step that gives a value, and what follows fails
 pub later_fails : {A B : Type 0} (e : ReadFault) (x : Result A (AnyFault verilog)) (a : A) (k : A → Result B (AnyFault verilog)) → x ≡ Ok a → Fails e (k a) → Fails e (x >>= k)
 later_fails e x a k h f = rw h f
 

@@ -15,7 +15,7 @@ use Rattle.verilog_expressions.specs.Gives.{Fails}
 use Rattle.verilog_expressions.specs.Grows.{grows, grows_once}
 use Rattle.verilog_expressions.proofs.Gives.{first_fails}
 
--- whatever stands behind what grows, at the first part
+-- whatever follows what grows, at the first part
 abbrev turned : {A B : Type 0} → ℕ → Growth verilog A → (A → B → A) → Rule verilog B → A → List Lexeme → Outcome verilog A
 turned d w f h a i =
     cond (member (next verilog i) (first verilog begins h) && w.may a)
@@ -44,7 +44,7 @@ module _ {A B : Type 0} (d : ℕ) (w : Growth verilog A) (f : A → B → A) (h 
   once_more true (Err e) a i = refl
   once_more false x a i = refl
 
-  -- where a part follows, it grows by that and then by those behind
+  -- where a part follows, it grows by that and then by those after it
   pub goes_on : (a : A) (i : List Lexeme) → member (next verilog i) (first verilog begins h) ≡ true → w.may a ≡ true
       → grows d w f h a i ≡ (grows_once d w f h a i >>= λ y. grows d w f h y.0 y.1)
   goes_on a i t m = step a i ∙ (rw (t, m) refl ∙ once_more (nat_le (w.height a) d) (reads verilog grammar d h i) a i)

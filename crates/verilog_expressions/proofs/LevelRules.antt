@@ -18,7 +18,7 @@ use Rattle.verilog_expressions.specs.Grows.{by_operators, by_operator}
 use Rattle.verilog_expressions.proofs.Grown.{stays, more, more_fails, takes_tokens}
 use Rattle.verilog_expressions.proofs.Levels.{loosest}
 
--- ---- an operator with the operand behind it
+-- ---- an operator with the operand after it
 
 operation_takes : (l t : Level) → nullable (operation_rule l t) ≡ false
 unfolding operation_rule

@@ -25,7 +25,7 @@ pub number_next : (v w : ℕ) (ds : List ℕ) (i : ℕ) → i < length ds → w 
 number_next v w ds i h e =
     ap (λ n. n % 2 ^ 128) (number-drop v ds i h) ∙ number_cut (2 ^ 128) (with_digit v (get_or ds i 0)) w (drop (i + 1) ds) (sym (mod-mod (with_digit v (get_or ds i 0)) (2 ^ 128)) ∙ ap (λ n. n % 2 ^ 128) (sym e))
 
--- without digits behind it a number is itself
+-- without digits after it a number is itself
 pub number_end : (v : ℕ) (ds : List ℕ) (i : ℕ) → length ds ≤ i → v < 2 ^ 128 → number v (drop i ds) % 2 ^ 128 ≡ v
 number_end v ds i h small = rw (drop_all i ds h) (mod-eq_of_lt small)
 

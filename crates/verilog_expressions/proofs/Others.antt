@@ -23,7 +23,7 @@ use Rattle.verilog_expressions.specs.Others.{others_view}
 
 -- ---- the list
 
--- the first is e, and it stands behind what has the depth d
+-- the first is e, and it comes after what has the depth d
 pub record Follows (e : Expr) (d : Depth) (l : MeasuredList) : Type 0 where
   pub exprs : exprs_view l.exprs.items ≡ e ∷ others_view l
   pub start : l.start ≡ d

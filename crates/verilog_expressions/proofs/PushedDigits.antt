@@ -80,7 +80,7 @@ cut_masks w a b small =
 
 -- ---- digits
 
--- a digit that stands for no x and no z
+-- a digit that is no x and no z
 pub is_plain : (strange : Bool) (b : Bit) → None ≡ (if strange then Some b else None) → strange ≡ false
 is_plain true b e = cc
 is_plain false b e = refl

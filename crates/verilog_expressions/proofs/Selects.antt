@@ -114,7 +114,7 @@ selected_if a false o f v m e = absurd cc
 pub select_found : (d : ℕ) (a : Expr) (i : List Lexeme) (v : Expr) (m : List Lexeme) → by_select d a i ≡ Ok (v, m) → (s : Select) × (selected a s ≡ v)
 select_found d a i v m e = selected_if a (nat_le (depth a).height d) (reads verilog grammar d select_rule i) _ v m e
 
--- a select of a name, with one more select behind it
+-- a select of a name, with one more select after it
 pub once_read : (d : ℕ) (i m o : List Lexeme) (v x : Expr) → reads verilog grammar 0 name_is i ≡ Ok (v, m) → by_select d v m ≡ Ok (x, o) → is_selected_once x ≡ true
 once_read d i m o v x e h = let s = select_found d v m x o h in subst (λ (y : Expr). is_selected_once y ≡ true) s.1 (once v s.0 (named i v m e))
 

@@ -25,7 +25,7 @@ abbrev pub Fails : {Y : Type 0} → ReadFault → Result Y (AnyFault verilog) �
 Fails read_fault.Memory read = Unit {0}
 Fails (read_fault.At f) read = read ≡ Err (fault_view f)
 
--- the value, seen by view, and the tokens behind it
+-- the value, seen by view, and the tokens after it
 abbrev pub Gives : {X Y : Type 0} → (X → Y) → Outcome verilog Y → Result X ReadFault → List Lexeme → Type 0
 Gives view read (Ok x) new = read ≡ Ok (view x, new)
 Gives view read (Err e) new = Fails e read

@@ -1,4 +1,4 @@
--- What a value grows to by the parts behind it.
+-- What a value grows to by the parts after it.
 use Rattle.std.specs.Prelude.{ℕ, nat_le, true, false, List, length, if◌then◌else◌, Ok}
 use Rattle.verilog_lexer.specs.Tokens.{Lexeme}
 use Rattle.verilog_tree.specs.Tree.{Expr}

@@ -4,6 +4,6 @@ use Rattle.verilog_tree.specs.Tree.{Expr}
 use Rattle.verilog_tree.specs.View.{exprs_view}
 use Rattle.verilog_expressions.specs.declared.measured.MeasuredList.{MeasuredList}
 
--- the expressions behind the first
+-- the expressions after the first
 unfoldable pub others_view : MeasuredList → List Expr
 others_view l = drop 1 (exprs_view l.exprs.items)

@@ -1,4 +1,4 @@
--- What the values that functions give stand for.
+-- What the values that functions give represent.
 use Rattle.std.specs.Prelude.{List, [], ◌∷◌}
 use Rattle.verilog_lexer.specs.Tokens.{Lexeme}
 use Rattle.verilog_lexer.specs.TokenView.{lexeme}
@@ -14,7 +14,7 @@ use Rattle.verilog_expressions.specs.declared.measured.Measured.{Measured}
 abbrev pub set_view : Expr × Expr → t.Expr × t.Expr
 set_view p = (expr_view p.0, expr_view p.1)
 
--- a token, and an expression behind it
+-- a token, and an expression after it
 abbrev pub behind_token : Token × Measured → Lexeme × t.Expr
 behind_token p = (lexeme p.0, measured_view p.1)
 

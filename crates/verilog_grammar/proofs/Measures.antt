@@ -127,7 +127,7 @@ module _ (d : ℕ) (nested : (p : Phrase) (v : Value p) (i o : List Lexeme) (s :
       (deepest_of (deeper D (depth e)) (exprs_of es)) (λ n j y. elim y [ inl a ↦ elim a [ inl b ↦ inl b | inr b ↦ inr (inl b) ] | inr a ↦ inr (inr a) ])
       (chain_deep g h (λ n j. Q n j ⊎ In g e i s.0 s.1 n j) (deeper D (depth e)) (two_deep Q (In g e i s.0 s.1) D (depth e) q (h e i s.0 s.1)) es s.0 o s.2)
 
-  -- one or more with commas between, behind others
+  -- one or more with commas between, after others
   listed_deep : (g : Phrased Expr) → AreDeep g depth → (Q : ℕ → List Lexeme → Type 0) (D : Depth) → IsDeep Q D → (es : List Expr) (i o : List Lexeme) (s : Within verilog grammar d (listed g) es i o)
       → IsDeep (λ n j. Q n j ⊎ In (listed g) es i o s n j) (deepest_of D (exprs_of es))
   listed_deep g h Q D q es i o s =
@@ -216,7 +216,7 @@ module _ (d : ℕ) (nested : (p : Phrase) (v : Value p) (i o : List Lexeme) (s :
       made_whole (both (any_of k.SignedCast (k.UnsignedCast ∷ [])) (in_parentheses an_expression)) cast_of (λ p. depth p.1)
       (behind_deep (any_of k.SignedCast (k.UnsignedCast ∷ [])) (in_parentheses an_expression) depth (after_deep k.OpenParen (before an_expression k.CloseParen) depth (before_deep k.CloseParen an_expression depth expression_deep))) (λ p. refl)
 
-  -- parts that stand behind others, with the depth of all
+  -- parts that come after others, with the depth of all
   abbrev AreJoined : {A : Type 0} → Phrased A → (ℕ → List Lexeme → Type 0) → (A → Depth) → Type 0
   AreJoined {A} g Q D = (v : A) (i o : List Lexeme) (s : Within verilog grammar d g v i o) → IsDeep (λ n j. Q n j ⊎ In g v i o s n j) (D v)
 

@@ -37,7 +37,7 @@ use Rattle.verilog_grammar.specs.Modules.{direction_rule, shape_rule, port_rule,
 abbrev behind_expression : List Kind
 behind_expression = k.CloseParen ∷ k.CloseBracket ∷ k.Colon ∷ k.Comma ∷ k.Semicolon ∷ k.CloseBrace ∷ k.OpenBrace ∷ k.PlusColon ∷ k.MinusColon ∷ []
 
--- what may stand behind an operand of a level: the looser operators, and what stands behind expressions
+-- what may follow an operand of a level: the looser operators, and what follows expressions
 abbrev behind_logical_or : List Kind
 behind_logical_or = k.Question ∷ behind_expression
 

@@ -1,4 +1,4 @@
--- Loops over what stands behind commas.
+-- Loops over what follows commas.
 use Rattle.std.proofs.Common.{◌≡◌, ℕ, true, false, List, [], ◌∷◌, ◌++◌, map, append_assoc, length, ◌<◌, Ok, Err, refl, sym, ap}
 use Rattle.std.proofs.lemmas.List.{map-append, map_push, append-nil}
 use Rattle.std.specs.Prelude.{◌==◌}
@@ -17,7 +17,7 @@ use Rattle.verilog_expressions.specs.declared.fault.ReadFault.{ReadFault}
 use Rattle.verilog_expressions.specs.declared.fault.ReadFault.TheVariants as read_fault
 use Rattle.verilog_expressions.specs.Gives.{Fails, fault_view}
 
--- what stands behind commas
+-- what follows commas
 abbrev pub behind : {A : Type 0} → Phrased A → Phrased (List A)
 behind g = many (after k.Comma g)
 
@@ -76,7 +76,7 @@ comma_fails fin d g s read_fault.Memory i total sees c h = tt
 comma_fails fin d g s (read_fault.At f) i total sees c h =
     fails verilog grammar tables passes fin d (after k.Comma g) refl refl s i total (fault_view f) sees (rw c refl) h
 
--- what stands behind a comma
+-- what follows a comma
 pub item_fails : {S A B : Type 0} (fin : S → List A → B) (d : ℕ) (g : Phrased A) (s : S) (e : ReadFault) (t : Lexeme) (i m : List Lexeme) (total : Outcome verilog B)
     → (next verilog i == code k.Comma) ≡ true → take_one verilog (code k.Comma ∷ []) i ≡ Ok (t, m) → Fails e (reads verilog grammar d g m)
     → going fin s (reads verilog grammar d (behind g) i) ≡ total → Fails e total

@@ -1,4 +1,4 @@
--- What stands between the parentheses of an instance by position.
+-- What is between the parentheses of an instance by position.
 use Rattle.std.proofs.Common.{◌≡◌, ◌≢◌, if◌then◌else◌, false, List, [], ◌∷◌, length, get_or, Option, Some, None, refl, arith}
 use Rattle.std.specs.Prelude.{is_none}
 use Rattle.verilog_tree.specs.Tree as t

@@ -1,4 +1,4 @@
--- What ports, types and shapes of declarations stand for.
+-- What ports, types and shapes of declarations represent.
 use Rattle.std.specs.Prelude.{ℕ, List, [], ◌∷◌, map, ◌++◌, Option}
 use Rattle.verilog_grammar.specs.Kind.{code}
 use Rattle.std.specs.Option.{option_map}

@@ -1,4 +1,4 @@
--- The parts of instances, and what they stand for.
+-- The parts of instances, and what they represent.
 use Rattle.std.specs.Prelude.{Bool, true, false, List, [], ◌∷◌, map, Option, None}
 use Rattle.grammar_rules.specs.Rule.{both, made}
 use Rattle.verilog_tree.specs.Tree as t

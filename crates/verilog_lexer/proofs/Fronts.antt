@@ -1,4 +1,4 @@
--- What a piece shows stands at the front of its text.
+-- What a piece shows is at the front of its text.
 use Rattle.std.proofs.Common.{◌≡◌, ◌<◌, ◌+◌, ℕ, zero, suc, Bool, true, false, cond, ◌==◌, get_or, List, [], ◌∷◌, ◌++◌, Option, None, Some, length, take, drop, refl, sym, ap, subst, arith, length-take}
 use Rattle.std.proofs.lemmas.List.{take-append-drop}
 use Rattle.std.proofs.lemmas.Bool.{eqb-true}
@@ -32,7 +32,7 @@ pub record Begins (text front : List ℕ) : Type 0 where
   pub is : text ≡ front ++ behind
   pub some : 0 < length front
 
--- names and keywords have the form of a name, and tell which they are
+-- names and keywords have the form of a name, and the word says which they are
 abbrev pub HasForm : TokenKind → List ℕ → Type 0
 HasForm kind.Identifier word = (has_name_form word ≡ true) × (is_reserved word ≡ false)
 HasForm kind.Keyword word = is_reserved word ≡ true
@@ -156,7 +156,7 @@ module _ (byte : ℕ) (others : List ℕ) where
   parenthesis_front : IsFrontOf (byte ∷ others) (parenthesis_piece (byte ∷ others))
   parenthesis_front = either (byte ∷ others) _ _ _ (λ is. comment_front 42 41) (λ is. operator_front)
 
--- a name stands at the front of the text that it is read in
+-- a name is at the front of the text that it is read in
 name_begins : (text : List ℕ) → (behind : List ℕ) × (text ≡ name_in text ++ behind)
 name_begins text = by_first (begins_name (get_or text 0 0)) where
   by_first : (begins : Bool) → (behind : List ℕ) × (text ≡ cond begins (take (run continues_name text) text) [] ++ behind)
@@ -262,7 +262,7 @@ module _ (byte : ℕ) (others : List ℕ) where
       (λ is. either (byte ∷ others) (byte == 96) _ _ (λ is. left_out_directive (byte ∷ others) (directive_of word) (length word + 1) (drop (length word + 1) (byte ∷ others)))
       (λ is. blank_front _ (run is_plain others + 1))))
 
-  -- the piece at the front shows what stands there
+  -- the piece at the front shows what is there
   pub piece_front : (in_macro : Bool) (conditions : List Condition) → IsFrontOf (byte ∷ others) (front_piece in_macro conditions (byte ∷ others))
   piece_front in_macro conditions =
       either (byte ∷ others) (in_macro && is_continuation (byte ∷ others)) _ _ (λ is. blank_front _ 2)

@@ -1,4 +1,4 @@
--- What a reading keeps: where its texts come from, and that each token is sound behind those before it.
+-- What a reading keeps: where its texts come from, and that each token is sound after those before it.
 use Rattle.std.proofs.Common.{◌≡◌, ◌+◌, ◌-◌, ℕ, zero, suc, Bool, true, false, cond, ◌==◌, List, [], ◌∷◌, ◌++◌, Option, None, Some, Ok, length, refl, sym, ap, subst, ◌∙◌, ⊎_elim}
 use Rattle.std.proofs.lemmas.List.{append-nil, append_assoc}
 use Rattle.std.proofs.lemmas.List.Elements.{All-nil, All-cons, All-append}
@@ -76,7 +76,7 @@ short_enough_from : (long : Bool) (place : Place) (nothing : Unit {0}) → cond 
 short_enough_from true place nothing is = absurd (no_answer _ nothing is)
 short_enough_from false place nothing is = refl
 
--- a token that is added is sound behind those before it
+-- a token that is added is sound after those before it
 sound_token : (spot : Spot) (text : List ℕ) (kind : TokenKind) (word : List ℕ) (old new : List Lexeme) → HasForm kind word → with_token spot text kind word old ≡ Ok new
     → IsSound old (record { kind = kind; text = word; place = spot.place }) × (new ≡ old ++ record { kind = kind; text = word; place = spot.place } ∷ [])
 sound_token spot text kind word old new form is =
@@ -230,10 +230,10 @@ module _ (sources : List SourceText) (defines : List DefineText) where
       let start : IsKept (beginning defines) = record { texts = All-nil _; macros = λ name body found. macros_kept defines [] no_macros refl (λ name body none. absurd (none-some body none)) name body found; sound = tt } in
       (bound.0, roots_kept sources [] 1 (beginning defines) bound.0 refl start bound.1, same_answer bound.0.tokens tokens bound.2)
 
-  -- the text of each token stands in a source, or in the text of a macro that was defined before
+  -- the text of each token is in a source, or in the text of a macro that was defined before
   pub texts_are_parts : (tokens : List Lexeme) → tokens_of sources defines ≡ Ok tokens → All (λ lexeme. IsTextOf sources defines lexeme.text) tokens
   texts_are_parts tokens is = let kept = tokens_kept tokens is in subst (All (λ lexeme. IsTextOf sources defines lexeme.text)) kept.2 kept.1.texts
 
-  -- each token is sound behind those before it
+  -- each token is sound after those before it
   pub tokens_are_sound : (tokens : List Lexeme) → tokens_of sources defines ≡ Ok tokens → AreSound [] tokens
   tokens_are_sound tokens is = let kept = tokens_kept tokens is in subst (AreSound []) kept.2 kept.1.sound

@@ -20,7 +20,7 @@ IsPartOf-trans text part less outer inner = record {
       ∙ regrouped outer.before inner.before less inner.behind outer.behind;
 }
 
--- the first bytes are a part, and so are those behind them
+-- the first bytes are a part, and so are those after them
 pub IsPartOf-take : (n : ℕ) (text : List ℕ) → IsPartOf text (take n text)
 IsPartOf-take n text = record { before = []; behind = drop n text; is = sym (take-append-drop n text) }
 

@@ -40,7 +40,7 @@ none_closes-empty : (bytes : ℕ) → none_closes bytes [] ≡ true
 none_closes-empty zero = refl
 none_closes-empty (suc bytes) = refl
 
--- the same is known of what is left behind the first bytes
+-- the same is known of what is left after the first bytes
 pub none_closes-drop : (passed bytes : ℕ) (text : List ℕ) → none_closes bytes text ≡ true → none_closes (bytes - passed) (drop passed text) ≡ true
 none_closes-drop zero bytes text none =
     let same : bytes - 0 ≡ bytes = omega arith in

@@ -1,4 +1,4 @@
--- Where the tokens stand that the reading of a file gives.
+-- Where the tokens are that the reading of a file gives.
 use Rattle.std.proofs.Common.{◌≡◌, ◌+◌, ◌-◌, ℕ, zero, suc, Bool, true, false, List, [], ◌∷◌, ◌++◌, Option, None, Some, Ok, length, take, drop, refl, sym, ap, subst, ◌∙◌, arith}
 use Rattle.std.proofs.lemmas.List.{append_assoc, take-append-drop, take_at, length-append}
 use Rattle.std.specs.List.{slice_get}
@@ -147,12 +147,12 @@ inner_reads (suc depth) sources place (file name) old new is =
     (λ number source ending reading numbered scanned. scan_file sources (inner_at depth sources) (inner_reads depth sources) source.bytes (file_start (number + 1)) ending 0 reading new (at_start sources number source numbered) scanned)
     is
 
--- what stands behind those before it
+-- what comes after those before it
 pub slice_get-behind : {A : Type 0} (before others : List A) (source : A) → slice_get (before ++ source ∷ others) (length before) ≡ Some source
 slice_get-behind [] others source = refl
 slice_get-behind (first ∷ before) others source = slice_get-behind before others source
 
--- one source more, where those behind it are read
+-- one source more, where those after it are read
 root_step : (all others : List SourceText) (number : ℕ) (source : SourceText) (old between new : Reading) → slice_get all number ≡ Some source → read_source all (number + 1) source old ≡ Ok between
     → Adds between new (AreReadInTurn all (number + 1 + 1)) → Adds old new (AreReadInTurn all (number + 1))
 root_step all others number source old between new numbered reads rest = by_root source.root refl where
@@ -173,7 +173,7 @@ roots_read all (source ∷ others) before number old new is counted reads =
     let rest = roots_read all others (before ++ source ∷ []) (number + 1) bound.0 new (is ∙ sym (append_assoc before (source ∷ []) others)) (omega (arith, counted, length-append before (source ∷ []))) bound.2 in
     root_step all others number source old bound.0 new (rw (is, counted) (slice_get-behind before others source)) bound.1 rest
 
--- the tokens of sources stand where the definitions say
+-- the tokens of sources are where the definitions say
 pub tokens_stand : (sources : List SourceText) (defines : List DefineText) (tokens : List Lexeme) → tokens_of sources defines ≡ Ok tokens → AreReadInTurn sources 1 tokens
 unfolding tokens_of
 tokens_stand sources defines tokens is =

@@ -1,4 +1,4 @@
--- Where the tokens stand that a reading adds.
+-- Where the tokens are that a reading adds.
 use Rattle.std.proofs.Common.{◌≡◌, ◌-◌, ℕ, zero, suc, Bool, true, false, cond, ◌==◌, List, [], ◌∷◌, ◌++◌, Option, None, Some, Ok, Err, length, refl, sym, ap, ◌∙◌}
 use Rattle.std.proofs.lemmas.List.{append-nil, append_assoc}
 use Rattle.std.proofs.lemmas.List.Elements.{All-nil, All-cons, All-append}
@@ -42,7 +42,7 @@ room_ok spot inside next answer is = by_room (nat_lt inside.reading.room (bytes_
   by_room true is = absurd (no_answer _ answer is)
   by_room false is = is
 
--- the tokens that the new reading has behind those of the old one
+-- the tokens that the new reading has after those of the old one
 abbrev pub Adds : Reading → Reading → (List Lexeme → Type 0) → Type 0
 Adds old new Are = (added : List Lexeme) × (new.tokens ≡ old.tokens ++ added) × Are added
 
@@ -106,7 +106,7 @@ goes_on old step is =
     let same = sym (same_answer (record { reading = old; entry = None }) step is) in
     (ap (λ s. s.reading.tokens) same, ap (λ s. s.entry) same, ap (λ s. s.reading.room) same)
 
--- a token that is added makes no bad number, is short enough, and stands at the end
+-- a token that is added makes no bad number, is short enough, and is at the end
 pub with_token_is : (spot : Spot) (text : List ℕ) (kind : TokenKind) (word : List ℕ) (old new : List Lexeme) → with_token spot text kind word old ≡ Ok new
     → (sound_number (bad_number old kind word spot.place) ≡ Ok tt) × (short_enough spot text kind word ≡ Ok tt) × (new ≡ old ++ record { kind = kind; text = word; place = spot.place } ∷ [])
 with_token_is spot text kind word old new is =
@@ -152,11 +152,11 @@ entered_none inner spot entry old new none is = sym (ap (λ reading. reading.tok
 pub entered_some : (inner : Inner) (spot : Spot) (entry : Option Entry) (into : Entry) (old new : Reading) → entry ≡ Some into → entered inner spot entry old ≡ Ok new → inner spot into old ≡ Ok new
 entered_some inner spot entry into old new some is = rw some at is
 
--- all tokens stand at the place
+-- all tokens are at the place
 abbrev pub AreAt : Place → List Lexeme → Type 0
 AreAt place tokens = All (λ token. token.place ≡ place) tokens
 
--- within a macro everything stands where the macro is used
+-- within a macro everything is at the place where the macro is used
 module _ (inner : Inner) (stays : (place : Place) (entry : Entry) (old new : Reading) → inner (record { place = place; inside = true }) entry old ≡ Ok new → Adds old new (AreAt place)) where
   inside_step : (place : Place) (piece : Piece) (old between : Reading) (step : Step) → Means (record { place = place; inside = true }) piece old step → entered inner (record { place = place; inside = true }) step.entry step.reading ≡ Ok between → Adds old between (AreAt place)
   inside_step place (blank n) old between step means is = adds_none old between (AreAt place) (entered_none inner _ step.entry step.reading between means.1 is ∙ means.0) (All-nil _)

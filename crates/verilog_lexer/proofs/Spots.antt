@@ -1,4 +1,4 @@
--- Places behind bytes.
+-- Places after bytes.
 use Rattle.std.proofs.Common.{◌≡◌, ◌<◌, ◌≤◌, ◌+◌, arith, Bool, true, false, ℕ, suc, List, [], ◌∷◌, zero, cond, ◌==◌, ◌^◌, length, get_or, take, drop, drop-cons, add-one, refl, inl, inr, ◌∙◌, ◌⊎◌}
 use Rattle.cov_host.specs.declared.place.Place.{Place}
 use Rattle.verilog_lexer.specs.Spot.{next_place, after, after_all, IsInRange, IsBefore}
@@ -8,7 +8,7 @@ use Rattle.verilog_lexer.specs.declared.spot.Spot.{Spot}
 pub after_all-drop : (spot : Spot) (bytes : List ℕ) (i : ℕ) → i < length bytes → after_all spot (drop i bytes) ≡ after_all (after spot (get_or bytes i 0)) (drop (i + 1) bytes)
 after_all-drop spot bytes i within = rw (drop-cons bytes i 0 within, add-one i) refl
 
--- within a macro everything stands where the macro is used
+-- within a macro everything is at the place where the macro is used
 pub after_all-inside : (place : Place) (bytes : List ℕ) → after_all (record { place = place; inside = true }) bytes ≡ record { place = place; inside = true }
 after_all-inside place [] = refl
 after_all-inside place (byte ∷ bytes) = after_all-inside place bytes
@@ -41,7 +41,7 @@ after_all_in_range text zero spot range = range
 after_all_in_range [] (suc bytes) spot range = range
 after_all_in_range (byte ∷ others) (suc bytes) spot range = after_all_in_range others bytes (after spot byte) (after_in_range spot.place spot.inside byte (length others) range)
 
--- a byte stands before what is behind it
+-- a byte is before what comes after it
 next_is_behind : (place : Place) (byte : ℕ) → IsBefore place (next_place place byte)
 next_is_behind place byte = by_end (byte == 10) where
   by_end : (ends : Bool) → IsBefore place (cond ends (record place { line = place.line + 1; column = 1 }) (record place { column = place.column + 1 }))

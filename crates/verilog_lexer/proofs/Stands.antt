@@ -85,7 +85,7 @@ module _ (sources : List SourceText) (waiting : List PassageText) (passage : Pas
   pub meaning_faults : (fault : LexFault) → IsFault (meaning passage.spot passage.text (front_piece (is_none passage.ending) reading.conditions passage.text) reading) fault → IsFault (outcome sources (record { waiting = waiting; passage = passage; reading = reading })) fault
   meaning_faults = fault_through _ _ (λ fault faults. rw (outcome-piece, faults) (outward-fault 64 sources waiting fault))
 
-  -- a piece behind which nothing is entered
+  -- a piece after which nothing is entered
   pub goes_on_same : (next : Reading) → meaning passage.spot passage.text (front_piece (is_none passage.ending) reading.conditions passage.text) reading ≡ Ok (record { reading = next; entry = None }) →
       outcome sources (record { waiting = waiting; passage = passage; reading = reading }) ≡ outcome sources (record { waiting = waiting; passage = advanced bytes passage; reading = next })
   unfolding outcome
@@ -166,7 +166,7 @@ opened_room sources spot entry old inside is =
     let bound = bind_ok (looked_up sources spot entry old) (put_in spot) inside is in
     put_in_room spot bound.0 inside bound.2 ∙ looked_up_room sources spot entry old bound.0 bound.1
 
--- over a stand as a whole
+-- over a `Stand` as a whole
 module _ (sources : List SourceText) (stand : Stand) (bytes : ℕ) (some : 0 < length stand.passage.text) (is : bytes ≡ piece_length (front_piece (is_none stand.passage.ending) stand.reading.conditions stand.passage.text) - 1 + 1) where
   passed : bytes ≡ suc (piece_length (front_piece (is_none stand.passage.ending) stand.reading.conditions stand.passage.text) - 1)
   passed = omega (arith, is)

@@ -1,4 +1,4 @@
--- What stands behind the words of processes.
+-- What follows the words of processes.
 use Rattle.std.proofs.Common.{◌≡◌, ℕ, List, [], ◌∷◌, ◌++◌, map, append_assoc, Ok, Err, refl, sym, ◌∙◌}
 use Rattle.std.proofs.lemmas.List.{map_push}
 use Rattle.verilog_lexer.specs.Tokens.{Lexeme}
@@ -47,7 +47,7 @@ pub before_lacks : {A : Type 0} (e : ReadFault) (d : ℕ) (g : Phrased A) (x : K
 before_lacks read_fault.Memory d g x i m a h k = tt
 before_lacks (read_fault.At f) d g x i m a h k = rw (h, k) refl
 
--- what stands behind an assign, which has this place
+-- what follows an assign, which has this place
 pub assign_reads : (d : ℕ) (i m : List Lexeme) (t : Lexeme) → take_one verilog (code k.Assign ∷ []) i ≡ Ok (t, m)
     → reads verilog grammar d continuous_item_rule i ≡ reads verilog grammar d (before (made (map (continuous_item_of t.place)) (listed set_rule)) k.Semicolon) m
 unfolding continuous_item_rule set_rule
@@ -55,7 +55,7 @@ assign_reads d i m t e =
     made_behind continuous_items_of d (only k.Assign) (before (listed set_rule) k.Semicolon) i m t e
     ∙ made_before (map (continuous_item_of t.place)) d (listed set_rule) k.Semicolon m
 
--- what came so far, with what is made of each value behind it
+-- what came so far, with what is made of each value after it
 abbrev pub push_made : {A B : Type 0} → (A → B) → List B → List A → List B
 push_made f s vs = s ++ map f vs
 

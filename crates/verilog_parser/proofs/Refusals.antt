@@ -48,7 +48,7 @@ stands tokens f e = verilog_exact.faults 256 tokens f e
 pub too_deep_at : (tokens : List Lexeme) (place : Place) (left : ℕ) → Read tokens ≡ Err (record { kind = too_deep place; left = left }) → (at : ℕ) × NestTooDeep tokens at × IsTooDeepAt tokens at place
 too_deep_at tokens place left e = let s = stands tokens (record { kind = too_deep place; left = left }) e in (length tokens - left, s.0, (s.1, s.2))
 
--- no token stands where the fault is
+-- there is no token where the fault is
 pub ends_early : (tokens : List Lexeme) (left : ℕ) → Read tokens ≡ Err (record { kind = unexpected; left = left }) → length tokens ≤ length tokens - left → EndsEarly verilog grammar tokens
 ends_early tokens zero e h = stands tokens (record { kind = unexpected; left = zero }) e
 ends_early tokens (suc n) e h =
@@ -86,11 +86,11 @@ refused tokens left token others f e d r =
 pub at_unexpected : (tokens : List Lexeme) (f : Fault) → f.wrong ≡ wrong.Unexpected → Read tokens ≡ Err (fault_view f) → Read tokens ≡ Err (record { kind = unexpected; left = f.left })
 at_unexpected tokens f e h = h ∙ ap (λ (w : Wrong). Err (record { kind = wrong_view w; left = f.left })) e
 
--- no token stands there
+-- there is no token there
 pub not_there : (tokens : List Token) (at left : ℕ) → at ≡ length tokens - left → false ≡ nat_lt at (length tokens) → length (lexemes tokens) ≤ length (lexemes tokens) - left
 not_there tokens at left e h = let past = ltb-false at (length tokens) (sym h) in rw (length-map tokens lexeme) (omega (arith, e, past))
 
--- the token that stands there, and those behind it
+-- the token that is there, and those after it
 pub token_there : (tokens : List Token) (at left : ℕ) (t d : Token) → at ≡ length tokens - left → true ≡ nat_lt at (length tokens) → t ≡ get_or tokens at d
     → drop (length (lexemes tokens) - left) (lexemes tokens) ≡ lexeme t ∷ lexemes (drop (suc at) tokens)
 token_there tokens at left t d e h k =

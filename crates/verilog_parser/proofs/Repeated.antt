@@ -33,7 +33,7 @@ regroup : {A B : Type 0} (fin : B → List A → B) (f : List A → B) (s : B) (
 regroup {B = B} fin f s a (Ok y) law = ap (λ (b : B). Ok (b, y.1)) (law y.0)
 regroup fin f s a (Err x) law = refl
 
--- one that was read, and a repetition behind it
+-- one that was read, and a repetition after it
 pub begun : {A B : Type 0} (fin : B → List A → B) (f : List A → B) (d : ℕ) (g h : Phrased A) (s : B) (a : A) (i m : List Lexeme)
     → ((vs : List A) → fin s vs ≡ f (a ∷ vs)) → reads verilog grammar d g i ≡ Ok (a, m)
     → going fin s (reads verilog grammar d (many h) m) ≡ reads verilog grammar d (made f (made with_front (both g (many h)))) i

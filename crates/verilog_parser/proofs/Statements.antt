@@ -30,7 +30,7 @@ regroup : {A B C : Type 0} (f : A × B → C) (a : A) (o : Outcome verilog B) �
 regroup f a (Ok y) = refl
 regroup f a (Err x) = refl
 
--- what is made of a value that was read and of what is behind it
+-- what is made of a value that was read and of what follows it
 pub made_behind : {A B C : Type 0} (f : A × B → C) (d : ℕ) (g : Phrased A) (h : Phrased B) (i m : List Lexeme) (a : A)
     → reads verilog grammar d g i ≡ Ok (a, m) → reads verilog grammar d (made f (both g h)) i ≡ reads verilog grammar d (made (λ b. f (a, b)) h) m
 made_behind f d g h i m a e = rw e (regroup f a (reads verilog grammar d h m))

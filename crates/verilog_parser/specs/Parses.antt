@@ -1,4 +1,4 @@
--- What tokens say, and where the fault of tokens that are no modules stands.
+-- What tokens say, and where the fault of tokens that are no modules is.
 use Rattle.std.specs.Prelude.{◌≡◌, ℕ, List, ◌∷◌, drop, Option, Some, None, Result, Ok, Err}
 use Rattle.cov_host.specs.declared.place.Place.{Place}
 use Rattle.verilog_lexer.specs.Tokens.{Lexeme}
@@ -38,7 +38,7 @@ NestTooDeep tokens at = IsTooDeep verilog grammar 256 tokens at
 abbrev pub IsTooDeepAt : List Lexeme → ℕ → Place → Type 0
 IsTooDeepAt tokens at place = IsFirstTooDeep verilog grammar 256 tokens (drop at tokens) place × IsDeepInEach verilog grammar 256 tokens at place
 
--- the fault stands in the tokens
+-- the fault is in the tokens
 abbrev pub StandsIn : List Lexeme → ParseFault → Type 0
 StandsIn tokens fault.NoMemory = Unit {0}
 StandsIn tokens (fault.At Unexpected (Some place) None) = IsRefused tokens place None

@@ -17,15 +17,15 @@ use Rattle.verilog_grammar.specs.Modules.{Timed, under_star, under_names, under_
 abbrev pub separators : List ℕ
 separators = code k.OrWord ∷ code k.Comma ∷ []
 
--- what stands behind a separator
+-- what follows a separator
 abbrev pub next_rule : {A : Type 0} → Phrased A → Phrased A
 next_rule g = made second_of_two (both (any_of k.OrWord (k.Comma ∷ [])) g)
 
--- a body behind a parenthesis
+-- a body after a parenthesis
 abbrev pub closed_rule : Body → Phrased t.Statement
 closed_rule b = after k.CloseParen (nest (statement b))
 
--- what stands behind the opening parenthesis, and the body
+-- what follows the opening parenthesis, and the body
 abbrev pub timed_inside_rule : Phrased Timed
 timed_inside_rule =
     either (made under_star (after k.Star (closed_rule Combinational)))

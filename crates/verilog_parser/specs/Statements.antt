@@ -1,4 +1,4 @@
--- The words of statements, and what the parts of statements stand for.
+-- The words of statements, and what the parts of statements represent.
 use Rattle.std.specs.Prelude.{ℕ, List, [], ◌∷◌, ◌++◌, Option}
 use Rattle.cov_host.specs.declared.place.Place.{Place}
 use Rattle.verilog_lexer.specs.Tokens.{Lexeme}
@@ -36,15 +36,15 @@ argument_words = begins expression ++ code k.Quoted ∷ []
 abbrev pub no_value : Unit {0} → Unit {0}
 no_value u = tt
 
--- a default, and the arms behind it
+-- a default, and the arms after it
 abbrev pub default_arms_view : Arm × Vec Arm → t.CaseArm × List t.CaseArm
 default_arms_view p = (arm_view p.0, arms_view p.1.items)
 
--- what stands in the parentheses of a loop
+-- what is in the parentheses of a loop
 abbrev pub header_view : LoopHeader → (t.Expr × t.Expr) × (t.Expr × (t.Expr × t.Expr))
 header_view h = (set_view h.start, (expr_view h.test, set_view h.turn))
 
--- what stands behind the word of a system task
+-- what follows the word of a system task
 abbrev pub task_end : Phrased (Option (Option (Unit {0})) × Lexeme)
 task_end = both (optional (in_parentheses (optional arguments_rule))) (only k.Semicolon)
 

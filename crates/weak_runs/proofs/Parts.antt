@@ -18,7 +18,7 @@ use Rattle.weak_runs.specs.Makes.{At, IsOutside, Makes}
 use Rattle.weak_runs.specs.Unread.{unread_scene}
 use Rattle.weak_runs.proofs.Making.{makes_none}
 
--- parts without bits are none
+-- there are no parts without bits
 pub makes_no_parts : (d e : Design) (b : Bool) (xs : List Piece) (ps : KnownBits) (x : At) → AllTake d xs → widths xs ≡ 0 → IsOutside x → Makes (if b then weaken (pieces_writes e xs ps) else []) (if b then [] else weaken (pieces_writes e xs ps)) (if b then 0 else length xs) x x
 makes_no_parts d e true [] ps x h n o = makes_none x o
 makes_no_parts d e false [] ps x h n o = makes_none x o

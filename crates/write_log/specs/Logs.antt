@@ -75,7 +75,7 @@ tests_of (t ∷ ts) done undone now =
 abbrev pub around : LogState → Readings → List Around
 around l now = tests_of l.tests l.done l.undone now
 
--- what stands for a test where there is none
+-- what represents a test where there is no test
 abbrev pub no_test : Around
 no_test = record { test = 0; before = λ x. no_value; left = None }
 

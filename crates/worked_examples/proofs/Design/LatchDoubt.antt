@@ -86,7 +86,7 @@ never : (t : ℕ) → HasValue (clear latch Free latch_dump t) (a_signal 4) → 
 never zero k = y_none 0 nothing_known k.1.0 k.0 k.1.1
 never (suc t) k = y_none (suc t) (clear latch Free latch_dump t) k.1.0 k.0 k.1.1
 
--- nor is z clear, as its Assign is not told
+-- nor is z clear, as what its Assign reads is not known
 by_net : (t : ℕ) (start K : PartialMap) → Agrees latch K (latch_dump.values t) → ((bits : List Bit) → K (a_signal 4) bits → ⊥) → (x : Thing) (bits : List Bit) → IsClearBy latch Free latch_dump t start K x bits → x ≡ a_signal 5 → ⊥
 by_net t start K av none x bits (of_dump s w0 is_shown is_bound is_signal is) e = false≢true (subst IsBoundHere e is_bound)
 by_net t start K av none x bits (of_assigns s w0 unbound is) e =

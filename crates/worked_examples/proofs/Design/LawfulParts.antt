@@ -1,4 +1,4 @@
--- Parts of proofs that a design is lawful: line points and nodes whose numbers rise are told apart by them, and names by their first letters.
+-- Parts of proofs that a design is lawful: line points and nodes whose numbers rise differ by them, and names by their first letters.
 use Rattle.std.proofs.Common.{◌≡◌, inl, inr, ℕ, ◌<◌, ◌&&◌, Bool, true, List, [], ◌∷◌, sym, ap, subst, ◌∙◌, arith}
 use Rattle.std.specs.Prelude.{nat_lt, slice_index_or}
 use Rattle.std.specs.List.{list_all}

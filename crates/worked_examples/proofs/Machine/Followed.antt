@@ -1,4 +1,4 @@
--- The examples of what is told of states, and of how machines are marked in a step.
+-- The examples of what is reported of states, and of how machines are marked in a step.
 use Rattle.std.proofs.Common.{◌≡◌, ◌<◌, ◌==◌, ℕ, true, false, List, [], ◌∷◌, None, length, get_or, refl, sym, subst, inl, inr, arith, lit<}
 use Rattle.std.proofs.lemmas.Bool.{false≢true}
 use Rattle.design_model.specs.Pipe.{pipe}

@@ -39,7 +39,7 @@ gap_dump b =
           if nat_le 25 t then buffer_values One One else (if nat_le 20 t then buffer_values Zero b else (if nat_le 5 t then buffer_values One One else buffer_values Zero Zero));
     }
 
--- Each stretch has its window, and from the last time of the first to the first time of the second there is none. The block has acted at 5, so at 20 y is forced
+-- Each stretch has its window, and from the last time of the first to the first time of the second there is no window. The block has acted at 5, so at 20 y is forced
 -- to the value of a, whatever the dump has there: no run shows a dump that has 1 there.
 pub record IsGapExample : Type 0 where
   pub in_order : (b : Bit) → AreStretches (gap_dump b).stretches

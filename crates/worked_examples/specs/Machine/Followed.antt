@@ -1,4 +1,4 @@
--- Examples of what is told of the states of machines, and of how they are marked in a step of the design of `pipe`.
+-- Examples of what is reported of the states of machines, and of how they are marked in a step of the design of `pipe`.
 use Rattle.std.specs.Prelude.{◌≡◌, ◌∷◌, ◌==◌, ℕ, true, false, List, [], nat_lt, Some, None, codes}
 use Rattle.four_state.specs.declared.bit.Bit.TheVariants.{One, X, Zero}
 use Rattle.design_model.specs.Pipe.{pipe, pipe_values}

@@ -1,5 +1,5 @@
 use Rattle.body_tests.proofs.random_bodies.bodies.Writer.+write.Given as goal
 
--- what a letter stands for has one step less
+-- what a letter means has one step less
 abbrev pub decreases-write : goal.decreases-write
 decreases-write l = l.depth
