@@ -31,7 +31,7 @@ use Rattle.replay_sets.proofs.wake_laws.RoundsLaw.{has_moves, rounds_law}
 use Rattle.step_wakes.specs.Step.{AreChanges, IsOfDesign, StepSets, flag_at, is_given, is_missing}
 use Rattle.step_wakes.specs.declared.step.SignalChange.{SignalChange}
 
--- these changes, and no others, are noted since the state before, beside the inputs whose changes are never given
+-- these changes, and no others, are noted since the state before, beside the inputs whose changes are never reported
 pub record IsNoted (before : WakeState) (changes : List SignalChange) (after : WakeState) : Type 0 where
   pub tables : after.tables ≡ before.tables
   pub told : after.told ≡ before.told
@@ -191,13 +191,13 @@ module _ (d : Design) (bound : List Bool) (before noted : WakeState) (changes : 
     told_below : (x : ℕ) → (signal_at d x).input ≡ true → x < before.tables.things
     told_below x h = let l = input_below x h in omega (arith, l, of.tables.things_are)
 
-    -- an input whose changes are given is one that the dump gives
+    -- an input whose changes are reported is one that the dump gives
     given_told : (x : ℕ) → is_told before x ≡ true → is_given d bound x ≡ true
     given_told x h =
         let l : x < before.tables.things = ⊎_elim (λ l. l) (λ past. absurd (both_ways _ (get_or_past before.told x false (omega (arith, past, sized))) h)) (cases_lt x before.tables.things) in
         sym (of.told x l) ∙ h
 
-    -- an input whose changes are never given may change in each step
+    -- an input whose changes are never reported may change in each step
     missing_changes : (x : ℕ) → is_missing d bound x ≡ true → IsChangedInput d dump t x
     missing_changes x h =
         let input = (and_parts (signal_at d x).input _ h).0 in
@@ -233,7 +233,7 @@ module _ (d : Design) (bound : List Bool) (before noted : WakeState) (changes : 
     own_at : (x : ℕ) (c : SignalChange) → c.signal ≡ x → Contains changes c → get_or noted.own x no_edges ≡ edges_between (dump.values (t - 1) (cell x 0)) (dump.values t (cell x 0))
     own_at x c is m = subst (λ y. get_or noted.own y no_edges ≡ edges_between (dump.values (t - 1) (cell y 0)) (dump.values t (cell y 0))) is (listed_own c m)
 
-    -- the edges of an input that is noted and whose changes are given
+    -- the edges of an input that is noted and whose changes are reported
     told_own : (x : ℕ) → Contains noted.noted x → is_told noted x ≡ true → own_edges noted x ≡ edges_between (dump.values (t - 1) (cell x 0)) (dump.values t (cell x 0))
     told_own x m h =
         ap (λ b. cond b (get_or noted.own x no_edges) no_edges) (or_left (is_told noted x) (is_in noted.changed x) h)

@@ -39,7 +39,7 @@ pub record AreChanges (d : Design) (dump : BoundDump) (t : ℕ) (w : WakeState) 
   pub inputs : (x : ℕ) → dump.bound x ≡ true → IsChangedInput d dump t x → (c : SignalChange) × (c.signal ≡ x) × Contains changes c
   pub candidates : (x p : ℕ) → writer_at w x ≡ Some p → dump.values (t - 1) (cell x 0) ≢ dump.values t (cell x 0) → (c : SignalChange) × (c.signal ≡ x) × Contains changes c
 
--- once the changes of a step are given, and what is early was found for each clean block, the answers are the sets of the step
+-- once the changes of a step are reported, and what is early was found for each clean block, the answers are the sets of the step
 abbrev pub StepSets : Design → List Bool → List SignalChange → WakeState → Type 0
 StepSets d bound changes w =
     (dump : BoundDump) (t : ℕ) (h : Habit) (early : ℕ → List ℕ)

@@ -80,7 +80,7 @@ module _ (d : Design) (lawful : IsLawfulDesign d) (dump : BoundDump) (t : ℕ) (
     trigger_moves : R s
     trigger_moves = moves_by d lawful dump t w tables notes single s clean.can_wake.1
 
-    -- an input that is a trigger is one whose changes are given, so that the habit counts
+    -- an input that is a trigger is one whose changes are reported, so that the habit counts
     trigger_told : (machine d).is_input (cell s 0) ≡ true → is_told w s ≡ true
     trigger_told input = input_told d lawful dump t w tables notes s (reached_below d lawful dump t w tables notes s trigger_moves) (input, (single_told (machine d) (told_at dump t) (dump.round t) (cell s 0) clean.is_single).0)
 

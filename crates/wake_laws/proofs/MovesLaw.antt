@@ -84,7 +84,7 @@ module _ (d : Design) (lawful : IsLawfulDesign d) (dump : BoundDump) (t : ℕ) (
   pub flags_of : (x : ℕ) → x < w.tables.things → is_told w x ≡ true → ((signal_at d x).input ≡ true) × (dump.bound x ≡ true)
   flags_of x l h = and_parts (signal_at d x).input (dump.bound x) (sym (notes.told_are x l) ∙ h)
 
-  -- an input whose changes are given is single in each round
+  -- an input whose changes are reported is single in each round
   pub told_input : (x : ℕ) → x < w.tables.things → is_told w x ≡ true → IsToldInput (machine d) (told_at dump t) (cell x 0)
   told_input x l h = let b = flags_of x l h in (input_cell x b.0, b.1)
 
@@ -98,7 +98,7 @@ module _ (d : Design) (lawful : IsLawfulDesign d) (dump : BoundDump) (t : ℕ) (
   below : (x : ℕ) → S x → x < w.tables.things
   below x m = reached_below d lawful dump t w tables notes x m
 
-  -- the edges of a change that was given
+  -- the edges of a change that was reported
   own_told : (x : ℕ) → S x → is_single w x ≡ true → own_edges w x ≡ edges_between (dump.values (t - 1) (cell x 0)) (dump.values t (cell x 0))
   own_told x m h =
       ⊎_elim

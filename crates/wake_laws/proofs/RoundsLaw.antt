@@ -78,7 +78,7 @@ module _ (d : Design) (lawful : IsLawfulDesign d) (dump : BoundDump) (t : ℕ) w
   grows_to zero n c one = let is : n ≡ n + 0 = omega arith in subst (λ k. Single k c) is one
   grows_to (suc j) n c one = let is : suc n + j ≡ n + suc j = omega arith in subst (λ k. Single k c) is (grows_to j (suc n) c (grows n c one))
 
-  -- in round 0 the inputs whose changes are given are single
+  -- in round 0 the inputs whose changes are reported are single
   first_round : (w : WakeState) → AreTablesOf d w.tables → AreNotes d dump t w → w.derived ≡ [] → AreSingle d (at 0) t w
   first_round w tables notes none =
       record {

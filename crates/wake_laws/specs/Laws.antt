@@ -23,7 +23,7 @@ use Rattle.early_sets.specs.WakeState.{WakeState, edges_at, is_single, is_told, 
 abbrev pub IsChangedInput : Design → BoundDump → ℕ → ℕ → Type 0
 IsChangedInput d dump t x = (c : Cell) × (c.thing ≡ x) × IsMovingInput (machine d) (told_at dump t) c
 
--- what was given of the step at time t is what the dump says: each input that changes or may change, and of a bound one, and of each signal that may become single, from which bit to which
+-- what was reported of the step at time t is what the dump says: each input that changes or may change, and of a bound one, and of each signal that may become single, from which bit to which
 pub record AreNotes (d : Design) (dump : BoundDump) (t : ℕ) (w : WakeState) : Type 0 where
   pub told_are : (x : ℕ) → x < w.tables.things → is_told w x ≡ ((signal_at d x).input && dump.bound x)
   pub noted_are : (x : ℕ) → Contains w.noted x ↔ IsChangedInput d dump t x
@@ -54,7 +54,7 @@ pub record AreWakes (d : Design) (dump : BoundDump) (t : ℕ) (w : WakeState) : 
   pub trigger : (p s : ℕ) → trigger_of w p ≡ Some s → IsCleanAt d dump t p (cell s 0)
   pub no_trigger : (p : ℕ) → trigger_of w p ≡ None → (c : Cell) → IsCleanAt d dump t p c → ⊥
 
--- once it is settled, a state that was given what the dump says has the sets of the design's definitions
+-- once it is settled, a state of which was reported what the dump says has the sets of the design's definitions
 abbrev pub WakesLaw : Design → Type 0
 WakesLaw d = (dump : BoundDump) (t : ℕ) (w : WakeState) → AreTablesOf d w.tables → AreNotes d dump t w → AreSingle d dump t w → IsSettled w → AreWakes d dump t w
 
@@ -88,7 +88,7 @@ pub record AreInRounds (d : Design) (dump : BoundDump) (t : ℕ) (w : WakeState)
   pub single : AreSingle d dump t w
   pub first : (x : ℕ) → x < w.tables.things → is_single w x ≡ true → IsFirstSingle d dump t x (round_at w x)
 
--- after the rounds of a step that was given what the dump says, what is single is that of the design's definitions
+-- after the rounds of a step of which was reported what the dump says, what is single is that of the design's definitions
 abbrev pub RoundsLaw : Design → Type 0
 RoundsLaw d =
     (dump : BoundDump) (t : ℕ) (w : WakeState) (earlier : List WakeState) → AreTablesOf d w.tables → AreNotes d dump t w → IsRoundOf d dump t w
