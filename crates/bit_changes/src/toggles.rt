@@ -9,7 +9,7 @@ use crate::mask::low_mask;
 use known_state::Known;
 
 /// The bits of a signal that toggle over a step, as masks of their places.
-#[derive(Clone, Copy, Debug, PartialEq, Eq)]
+#[derive(Clone, Copy)]
 pub struct Toggles {
     /// Those that surely go from 0 to 1.
     pub rises: u128,

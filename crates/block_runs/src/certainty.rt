@@ -2,7 +2,7 @@ ghost use Rattle.std.specs.Prelude.{◌≡◌};
 ghost use Rattle.block_runs.specs.Notes.{is_weak_way, way_of};
 
 /// How sure it is that a block runs in a step.
-#[derive(Clone, Copy, Debug, PartialEq, Eq)]
+#[derive(Clone, Copy)]
 pub enum Certainty {
     /// It runs, in a step that ends at this time: what it visits is hit, and what it may visit is in doubt.
     Clean { time: u64 },

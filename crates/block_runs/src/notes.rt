@@ -5,7 +5,7 @@ ghost use Rattle.block_runs.specs.Notes.{AddsNotes, note_of};
 use term_replay::Spot;
 
 /// Why a point is left open: the time of the step, and the thing that is to blame.
-#[derive(Clone, Copy, Debug, PartialEq, Eq)]
+#[derive(Clone, Copy)]
 pub struct Doubt {
     pub time: u64,
     pub thing: u32,

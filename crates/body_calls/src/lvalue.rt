@@ -1,7 +1,7 @@
 use known_state::Known;
 
 /// What one part of an assignment writes (IEEE 1364-2001, clause 9.2), with its index evaluated.
-#[derive(Clone, Copy, Debug, PartialEq, Eq)]
+#[derive(Clone, Copy)]
 pub enum Lvalue {
     /// A whole signal.
     Signal(u32),

@@ -14,7 +14,7 @@ use scene_laws::{Notes, Progress, Reads, evaluate};
 
 /// Whether some label of an arm matches the selector, and the blame of the first read of the run that was not wholly sure,
 /// after the labels are evaluated.
-#[derive(Clone, Copy, Debug, PartialEq, Eq)]
+#[derive(Clone, Copy)]
 pub struct LabelsMatch {
     pub answer: Maybe,
     pub first: Option<u32>,

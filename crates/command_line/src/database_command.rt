@@ -4,7 +4,7 @@ ghost use Rattle.command_line.specs.DatabaseOption.{IsOptionOf, IsNoOptionOf, ha
 use crate::DatabaseOption;
 
 /// A command that reads databases.
-#[derive(Clone, Copy, Debug, PartialEq, Eq)]
+#[derive(Clone, Copy)]
 pub enum DatabaseCommand {
     /// Joins databases of one design.
     Merge,

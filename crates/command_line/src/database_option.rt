@@ -6,7 +6,7 @@ use crate::report_level::ReportLevel;
 use crate::report_metrics::is_letters;
 
 /// An option of the commands that read databases.
-#[derive(Clone, Copy, Debug, PartialEq, Eq)]
+#[derive(Clone, Copy)]
 pub enum DatabaseOption {
     /// How much a report shows.
     Level,

@@ -6,7 +6,7 @@ use crate::given_machine::is_machine;
 use crate::{GivenDefine, is_file_name, is_instance_path, is_module_name};
 
 /// An option of the command `score`. Its value, if it takes one, is the next word, whatever that begins with.
-#[derive(Clone, Copy, Debug, PartialEq, Eq)]
+#[derive(Clone, Copy)]
 pub enum ScoreOption {
     /// The name of the top module.
     Top,

@@ -1,5 +1,5 @@
 /// The values of a `selfrun` command.
-#[derive(Clone, Copy, Debug, PartialEq, Eq)]
+#[derive(Clone, Copy)]
 pub struct SelfrunWords {
     /// The number from which the inputs follow.
     pub number: u32,

@@ -3,11 +3,9 @@ ghost use Rattle.cov_host.specs.declared.fault.HostFault.TheVariants as host_fau
 ghost use Rattle.cov_host.specs.declared.fault.OpenFault.TheVariants as open_fault;
 
 use std::alloc::{AllocError, AllocFailed};
-use thiserror::Error;
 
 /// Want of memory.
-#[derive(Clone, Copy, Debug, PartialEq, Eq, Error)]
-#[error("memory ran out")]
+#[derive(Clone, Copy, Debug, PartialEq, Eq)]
 pub struct NoMemory;
 
 impl From<AllocError> for NoMemory {
@@ -23,16 +21,15 @@ impl<T: Drop> From<AllocFailed<T>> for NoMemory {
 }
 
 /// A call on a host failed.
-#[derive(Clone, Copy, Debug, PartialEq, Eq, Error)]
-#[error("the call failed")]
+#[derive(Clone, Copy, PartialEq, Eq)]
 pub struct Failed;
 
 /// Why a call on a host gave nothing.
-#[derive(Clone, Copy, Debug, PartialEq, Eq, Error)]
+#[derive(Clone, Copy, PartialEq, Eq)]
 pub enum HostFault {
-    #[error("the call failed")]
+    /// The call failed.
     Failed,
-    #[error("memory ran out")]
+    /// Memory ran out.
     NoMemory,
 }
 
@@ -53,13 +50,13 @@ impl From<NoMemory> for HostFault {
 }
 
 /// Why a file was not opened for reading.
-#[derive(Clone, Copy, Debug, PartialEq, Eq, Error)]
+#[derive(Clone, Copy, PartialEq, Eq)]
 pub enum OpenFault {
-    #[error("there is no such file")]
+    /// There is no such file.
     Absent,
-    #[error("the file was not opened")]
+    /// The file was not opened.
     Failed,
-    #[error("memory ran out")]
+    /// Memory ran out.
     NoMemory,
 }
 

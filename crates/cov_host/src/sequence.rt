@@ -18,7 +18,6 @@ pub type Text = Sequence<u8>;
 pub type Calls = Sequence<u64>;
 
 /// Items in order, which contracts see as a list. It keeps the allocator that it was made with.
-#[derive(Debug)]
 pub struct Sequence<T> {
     items: Vec<T>,
 }

@@ -6,7 +6,6 @@ use std::alloc::Global;
 use std::marker::Model;
 
 /// The words of a command line in order, which contracts see as a list of texts.
-#[derive(Debug)]
 pub struct Words {
     alloc: Global,
     words: Vec<String>,

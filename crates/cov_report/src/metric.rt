@@ -5,7 +5,7 @@ use crate::Letters;
 use coverage_db::Subject;
 
 /// A kind of coverage, with a line of its own in each block of a report.
-#[derive(Clone, Copy, PartialEq, Eq)]
+#[derive(Clone, Copy)]
 pub enum Metric {
     Line,
     Logic,

@@ -1,7 +1,7 @@
 ghost use Rattle.std.specs.Prelude.{◌≡◌, true, false};
 
 /// What a report shows.
-#[derive(Clone, Copy, PartialEq, Eq)]
+#[derive(Clone, Copy)]
 pub struct Options {
     /// How much is shown of each block.
     pub level: Level,
@@ -14,7 +14,7 @@ pub struct Options {
 }
 
 /// How much a report shows of each block.
-#[derive(Clone, Copy, PartialEq, Eq)]
+#[derive(Clone, Copy)]
 pub enum Level {
     /// The metrics.
     Summary,
@@ -25,7 +25,7 @@ pub enum Level {
 }
 
 /// The metrics that a report counts.
-#[derive(Clone, Copy, PartialEq, Eq)]
+#[derive(Clone, Copy)]
 pub struct Letters {
     /// Statements.
     pub line: bool,

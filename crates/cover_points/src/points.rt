@@ -1,5 +1,5 @@
 /// A point of a bit of a signal or of a word of a memory.
-#[derive(Clone, Copy, Debug, PartialEq, Eq)]
+#[derive(Clone, Copy)]
 pub struct IndexPoint {
     /// The number of the signal or memory.
     pub thing: u32,

@@ -1,7 +1,7 @@
 use design_model::NodeCase;
 
 /// What a replay reports of a design, and of which there is a coverage point.
-#[derive(Clone, Copy, Debug, PartialEq, Eq)]
+#[derive(Clone, Copy)]
 pub enum Visit {
     /// A statement of a process is reached.
     Line {

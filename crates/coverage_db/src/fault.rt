@@ -4,10 +4,9 @@ ghost use Rattle.coverage_db.specs.declared.fault.DbFault.TheVariants as db_faul
 ghost use Rattle.coverage_db.specs.declared.fault.MergeFault.TheVariants as merge_fault;
 
 use cov_host::{Name, NoMemory};
-use thiserror::Error;
 
 /// What is wrong with a database text.
-#[derive(Clone, Copy, Debug, PartialEq, Eq)]
+#[derive(Clone, Copy, PartialEq, Eq)]
 pub enum DbKind {
     /// The line does not fit.
     BadLine,
@@ -34,11 +33,11 @@ impl DbKind {
 }
 
 /// Why a database was not read.
-#[derive(Clone, Copy, Debug, PartialEq, Eq, Error)]
+#[derive(Clone, Copy, PartialEq, Eq)]
 pub enum DbFault {
-    #[error("memory ran out")]
+    /// Memory ran out.
     NoMemory,
-    #[error("the text is no database")]
+    /// The text is no database.
     At {
         /// What is wrong.
         kind: DbKind,
@@ -56,13 +55,12 @@ impl From<NoMemory> for DbFault {
 }
 
 /// Why two databases were not merged.
-#[derive(Debug, Drop, Error)]
+#[derive(Drop)]
 pub enum MergeFault {
-    #[error("memory ran out")]
+    /// Memory ran out.
     NoMemory,
     /// The databases are of different designs. Of the lines of their texts, each up to its verdict, this is the first
     /// that differs.
-    #[error("the designs differ")]
     DesignsDiffer {
         /// The number of the line, from 1.
         line: u32,

@@ -8,7 +8,7 @@ use cov_host::{Host, NoMemory};
 use whole_files::{warn_file, warn_pieces};
 
 /// Why a `selfrun` command did not print its counts.
-#[derive(Clone, Copy, Debug, PartialEq, Eq)]
+#[derive(Clone, Copy)]
 pub(crate) enum SelfrunFault {
     /// The host refused the print.
     Print,

@@ -1,5 +1,5 @@
 /// What a command does with points.
-#[derive(Clone, Copy, Debug, PartialEq, Eq)]
+#[derive(Clone, Copy)]
 pub enum Change {
     /// It takes them out of the totals of a report.
     Exclude,

@@ -8,14 +8,12 @@ use cov_host::{Host, Name};
 use coverage_db::DbKind;
 use db_tools::ToolFault;
 use itoa::Buffer;
-use thiserror::Error;
 use whole_files::{Call, warn_file, warn_pieces};
 
 /// Why a command over databases ended without its output.
-#[derive(Debug, Drop, Error)]
+#[derive(Drop)]
 pub enum CommandFault<'a> {
     /// A call on the host gave nothing: it failed, or the file is absent.
-    #[error("a call on a file failed")]
     Files {
         /// The call.
         call: Call,
@@ -23,12 +21,10 @@ pub enum CommandFault<'a> {
         file: &'a str,
     },
     /// The standard output took no text.
-    #[error("printing failed")]
     Print,
-    #[error("memory ran out")]
+    /// Memory ran out.
     Memory,
     /// The file is no database.
-    #[error("the file is no database")]
     NoDatabase {
         /// The name of the file.
         file: &'a str,
@@ -39,7 +35,6 @@ pub enum CommandFault<'a> {
     },
     /// The databases of the first file and of this one are of different designs. Of the lines of their texts, each
     /// up to its verdict, this is the first that differs.
-    #[error("the designs differ")]
     DesignsDiffer {
         /// The name of this file.
         file: &'a str,
@@ -51,7 +46,6 @@ pub enum CommandFault<'a> {
         other: Name,
     },
     /// A point is not one that the command can change.
-    #[error("a point was refused")]
     Point {
         /// The name of the file.
         file: &'a str,

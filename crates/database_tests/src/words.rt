@@ -17,20 +17,13 @@ pub(crate) fn words_of(alloc: Global, texts: &[&str]) -> Result<Words, NoMemory>
     Ok(words)
 }
 
-/// Whether the pieces of a fault are this text, and the fault is displayed so.
-fn says(alloc: Global, fault: &UsageFault<'_>, text: &str) -> bool {
+/// Whether the pieces of a fault are this text.
+fn says(fault: &UsageFault<'_>, text: &str) -> bool {
     let [before, word, after] = fault.pieces();
     let rest = text
         .strip_prefix(before)
         .and_then(|rest| rest.strip_prefix(word));
-    rest == Some(after) && is_displayed(alloc, fault, text)
-}
-
-fn is_displayed(alloc: Global, fault: &UsageFault<'_>, text: &str) -> bool {
-    match format!(in alloc; "{fault}") {
-        Ok(displayed) => displayed.as_str() == text,
-        Err(_) => false,
-    }
+    rest == Some(after)
 }
 
 /// Whether the words are no command, for this reason.
@@ -40,7 +33,7 @@ fn is_refused(alloc: Global, texts: &[&str], text: &str) -> bool {
     };
     match read_command(&words) {
         Ok(_) => false,
-        Err(fault) => says(alloc, &fault, text),
+        Err(fault) => says(&fault, text),
     }
 }
 

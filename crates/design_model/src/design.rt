@@ -95,7 +95,7 @@ pub struct Instance {
 }
 
 /// A declared range of bits or words, `[high:low]`, in either direction (IEEE 1364-2001, 3.3).
-#[derive(Clone, Copy, Debug, PartialEq, Eq)]
+#[derive(Clone, Copy)]
 pub struct Range {
     /// The left bound.
     pub high: u32,

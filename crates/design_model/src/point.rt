@@ -3,7 +3,7 @@ use four_state::Four;
 use point_words::{LineWord, NodeCase};
 
 /// A coverage point of a design.
-#[derive(Debug, Drop)]
+#[derive(Drop)]
 pub enum Point {
     /// A statement of an `always` block: its process, its number, the place of its first token and its word.
     Line {

@@ -5,7 +5,7 @@ use cov_host::NoMemory;
 use fsm_extract::MachinePart;
 
 /// Why nothing is drawn.
-#[derive(Clone, Copy, Debug, PartialEq, Eq)]
+#[derive(Clone, Copy)]
 pub enum DrawFault {
     NoMemory,
     /// This name is at fault, the first one that is, in the first instance of the module in which one is.

@@ -33,7 +33,7 @@ impl Drop for Opened {
 }
 
 /// How far a dump was read when its header ended.
-#[derive(Clone, Copy, Debug)]
+#[derive(Clone, Copy)]
 pub(crate) struct Span {
     /// How many bytes were read.
     pub(crate) at: u64,

@@ -4,7 +4,7 @@ ghost use Rattle.early_sets.specs.Edges.{edges_between, may_be};
 use four_state::{Bit, Edge};
 
 /// Which edges the change of a signal in this step may be (IEEE 1364-2001, 9.7.2).
-#[derive(Clone, Copy, Debug, PartialEq, Eq)]
+#[derive(Clone, Copy)]
 pub struct Edges {
     /// It may be a posedge.
     pub rise: bool,

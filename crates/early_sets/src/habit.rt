@@ -1,5 +1,5 @@
 /// When in a step the environment moves its inputs.
-#[derive(Clone, Copy, Debug, PartialEq, Eq)]
+#[derive(Clone, Copy)]
 pub enum Habit {
     /// Any input moves at any point.
     Free,

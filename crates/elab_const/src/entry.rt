@@ -1,7 +1,7 @@
 use four_state::Four;
 
 /// What a name means.
-#[derive(Clone, Copy, Debug, PartialEq, Eq)]
+#[derive(Clone, Copy)]
 pub enum Entry {
     /// A parameter.
     Constant(Four),

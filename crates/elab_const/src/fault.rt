@@ -6,10 +6,9 @@ ghost use Rattle.elab_const.specs.FaultText.{const_text};
 
 use cov_host::{NoMemory, Place};
 use std::alloc::{AllocError, AllocFailed};
-use thiserror::Error;
 
 /// What is wrong with a constant, a width or a loop.
-#[derive(Clone, Copy, Debug, PartialEq, Eq)]
+#[derive(Clone, Copy)]
 pub enum ConstKind {
     /// An expression that must be constant names something else, or has an x or z bit where a number is needed. The
     /// place is its first token.
@@ -41,7 +40,7 @@ impl ConstKind {
 }
 
 /// What is wrong, and where.
-#[derive(Clone, Copy, Debug, PartialEq, Eq)]
+#[derive(Clone, Copy)]
 pub(crate) struct Fault {
     pub(crate) kind: ConstKind,
     pub(crate) place: Place,
@@ -90,11 +89,11 @@ pub(crate) fn both<A: Drop, B: Drop>(
 }
 
 /// Why there is no constant, no shape or no turns.
-#[derive(Debug, Drop, Error)]
+#[derive(Drop)]
 pub enum ConstFault {
-    #[error("memory ran out")]
+    /// Memory ran out.
     NoMemory,
-    #[error("{kind:?}")]
+    /// This is wrong at this place.
     At { kind: ConstKind, place: Place },
 }
 

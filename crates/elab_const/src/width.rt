@@ -7,7 +7,7 @@ use crate::Entry;
 use four_state::{Binary, Four, Unary};
 
 /// The width of an expression in bits, from 1 to 128, and whether it is signed (IEEE 1364-2001, 4.4 and 4.5).
-#[derive(Clone, Copy, Debug, PartialEq, Eq)]
+#[derive(Clone, Copy)]
 pub struct Shape {
     /// The number of bits.
     pub width: u8,
@@ -71,7 +71,7 @@ impl Shape {
 }
 
 /// How an operator takes two operands.
-#[derive(Clone, Copy, Debug, PartialEq, Eq)]
+#[derive(Clone, Copy)]
 pub(crate) enum Operands {
     /// Both in its context.
     Wide,

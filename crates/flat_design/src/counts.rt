@@ -1,5 +1,5 @@
 /// What the limits of a design count.
-#[derive(Clone, Copy, Debug, PartialEq, Eq)]
+#[derive(Clone, Copy)]
 pub struct Counts {
     /// Signals.
     pub signals: u32,

@@ -2,7 +2,7 @@ use design_model::Range;
 use four_state::Four;
 
 /// A net or a variable as a name sees it.
-#[derive(Clone, Copy, Debug, PartialEq, Eq)]
+#[derive(Clone, Copy)]
 pub struct SignalEntry {
     /// Its place in the design's list of signals.
     pub number: u32,
@@ -17,7 +17,7 @@ pub struct SignalEntry {
 }
 
 /// A memory as a name sees it.
-#[derive(Clone, Copy, Debug, PartialEq, Eq)]
+#[derive(Clone, Copy)]
 pub struct MemoryEntry {
     /// Its place in the design's list of memories.
     pub number: u32,
@@ -30,7 +30,7 @@ pub struct MemoryEntry {
 }
 
 /// What a name means in an instance of a module.
-#[derive(Clone, Copy, Debug, PartialEq, Eq)]
+#[derive(Clone, Copy)]
 pub enum Entry {
     /// A parameter (IEEE 1364-2001, 3.11).
     Constant(Four),
@@ -49,14 +49,14 @@ pub enum Entry {
 }
 
 /// A signal or a memory, by its place in the design's list of signals or of memories.
-#[derive(Clone, Copy, Debug, PartialEq, Eq)]
+#[derive(Clone, Copy)]
 pub enum Thing {
     Signal(u32),
     Memory(u32),
 }
 
 /// The kind of process that an assignment belongs to.
-#[derive(Clone, Copy, Debug, PartialEq, Eq)]
+#[derive(Clone, Copy)]
 pub enum Mode {
     /// A continuous assignment, or the connection of an output.
     Continuous,

@@ -6,11 +6,10 @@ ghost use Rattle.flat_design.specs.FaultText.{elab_text};
 use cov_host::{Name, NoMemory, Place};
 use elab_const::ConstFault;
 use std::alloc::{AllocError, AllocFailed};
-use thiserror::Error;
 
 /// What is wrong with modules and a top, apart from the faults of constants. Each is reported with a name and the place
 /// of that name's token; where two things are in conflict it is the later one.
-#[derive(Clone, Copy, Debug, PartialEq, Eq)]
+#[derive(Clone, Copy)]
 pub enum ElabKind {
     /// No module has this name. For the top there is no place.
     NoModule = 1,
@@ -74,7 +73,7 @@ impl ElabKind {
 }
 
 /// The limits of a design.
-#[derive(Clone, Copy, Debug, PartialEq, Eq)]
+#[derive(Clone, Copy)]
 pub enum DesignLimit {
     /// 65,536 signals.
     Signals,
@@ -114,13 +113,13 @@ impl DesignLimit {
 }
 
 /// Why modules and a top have no flat design.
-#[derive(Debug, Drop, Error)]
+#[derive(Drop)]
 pub enum ElabFault {
-    #[error("memory ran out")]
+    /// Memory ran out.
     NoMemory,
-    #[error("{0}")]
+    /// An expression has no constant value, or a loop has no turns.
     Const(ConstFault),
-    #[error("{kind:?}")]
+    /// Something else is wrong at a place.
     At {
         /// What is wrong.
         kind: ElabKind,

@@ -9,7 +9,7 @@ use crate::mask::{has_place, low_mask};
 use std::marker::Model;
 
 /// A vector of 1 to 128 bits with a sign flag, which contracts see as the list of its bits, the lowest first.
-#[derive(Clone, Copy, Debug, PartialEq, Eq)]
+#[derive(Clone, Copy, PartialEq, Eq)]
 pub struct Four {
     ones: u128,
     strange: u128,

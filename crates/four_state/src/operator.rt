@@ -1,7 +1,7 @@
 ghost use Rattle.std.specs.Prelude.{◌≡◌};
 
 /// An operator with one operand (IEEE 1364-2001, clause 4.1).
-#[derive(Clone, Copy, Debug, PartialEq, Eq)]
+#[derive(Clone, Copy)]
 pub enum Unary {
     /// `+`
     Positive,
@@ -28,7 +28,7 @@ pub enum Unary {
 }
 
 /// An operator with two operands (IEEE 1364-2001, clause 4.1).
-#[derive(Clone, Copy, Debug, PartialEq, Eq)]
+#[derive(Clone, Copy)]
 pub enum Binary {
     /// `*`
     Multiply,
@@ -100,7 +100,7 @@ impl Binary {
 }
 
 /// How the labels of a case statement match (IEEE 1364-2001, clause 9.5.1).
-#[derive(Clone, Copy, Debug, PartialEq, Eq)]
+#[derive(Clone, Copy)]
 pub enum CaseKind {
     /// `case`: all four values are compared.
     Exact,

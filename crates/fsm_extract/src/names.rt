@@ -15,7 +15,7 @@ use design_model::Design;
 use state_machines::signal_named;
 
 /// What a machine is named by.
-#[derive(Clone, Copy, Debug, PartialEq, Eq)]
+#[derive(Clone, Copy)]
 pub enum MachinePart {
     /// The name of the module.
     Module,
@@ -26,7 +26,7 @@ pub enum MachinePart {
 }
 
 /// Why names are those of no machine.
-#[derive(Clone, Copy, Debug, PartialEq, Eq)]
+#[derive(Clone, Copy)]
 pub enum MachineFault {
     /// This part is at fault, the first one that is.
     NoMachine { at: MachinePart },

@@ -10,7 +10,7 @@ use std::marker::Model;
 /// A vector of which some bits are sure and the others can have any value, with the thing to blame for those.
 /// Contracts see it as its bits, each sure or not, its sign flag and its blame, and so as a test on vectors: those
 /// that agree with its sure bits are allowed.
-#[derive(Clone, Copy, Debug, PartialEq, Eq)]
+#[derive(Clone, Copy, PartialEq, Eq)]
 pub struct Known {
     value: Four,
     sure: u128,

@@ -1,7 +1,7 @@
 use four_state::Truth;
 
 /// The answer to a question about a vector of which not all bits are known.
-#[derive(Clone, Copy, Debug, PartialEq, Eq)]
+#[derive(Clone, Copy, PartialEq, Eq)]
 pub enum Maybe {
     /// Yes, whatever the vector is.
     Yes,
@@ -12,7 +12,7 @@ pub enum Maybe {
 }
 
 /// What a vector of which not all bits are known says as a condition.
-#[derive(Clone, Copy, Debug, PartialEq, Eq)]
+#[derive(Clone, Copy)]
 pub enum KnownTruth {
     /// This, whatever the vector is.
     Sure(Truth),

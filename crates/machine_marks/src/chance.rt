@@ -8,7 +8,7 @@ use four_state::Four;
 use known_state::Known;
 
 /// How sure something is.
-#[derive(Clone, Copy, Debug, PartialEq, Eq)]
+#[derive(Clone, Copy)]
 pub(crate) enum Chance {
     /// It surely is not so.
     Never,

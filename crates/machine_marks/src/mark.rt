@@ -10,7 +10,7 @@ use cover_marks::Marks;
 use cover_points::{MachinePoint, Points};
 
 /// What a state or an arc is marked with: the signal and the time of a doubt.
-#[derive(Clone, Copy, Debug, PartialEq, Eq)]
+#[derive(Clone, Copy)]
 pub(crate) struct Reason {
     pub(crate) signal: u32,
     pub(crate) time: u64,

@@ -10,7 +10,7 @@ use cov_host::NoMemory;
 use std::alloc::Global;
 
 /// The columns of a row, from the least to the greatest. There is no column where the least is greater.
-#[derive(Clone, Copy, Debug, PartialEq, Eq)]
+#[derive(Clone, Copy)]
 pub(crate) struct Range {
     pub(crate) least: usize,
     pub(crate) greatest: usize,

@@ -11,7 +11,7 @@ use cov_host::NoMemory;
 use std::alloc::Global;
 
 /// Where the numbers of a row are.
-#[derive(Clone, Copy, Debug, PartialEq, Eq)]
+#[derive(Clone, Copy)]
 pub(crate) struct Row {
     /// The least column that has a number.
     pub(crate) least: usize,

@@ -1,5 +1,5 @@
 /// A place in a table of numbers.
-#[derive(Clone, Copy, Debug, PartialEq, Eq)]
+#[derive(Clone, Copy)]
 pub struct Slot {
     /// The number of the row.
     pub row: u32,

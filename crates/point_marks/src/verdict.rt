@@ -2,7 +2,7 @@ ghost use Rattle.std.specs.Prelude.{◌≡◌};
 ghost use Rattle.point_marks.specs.Marking.{with_doubt};
 
 /// Why a point may have been hit: this signal or memory is in doubt at this time.
-#[derive(Clone, Copy, Debug, PartialEq, Eq)]
+#[derive(Clone, Copy)]
 pub struct Doubt {
     /// The number of the signal or memory.
     pub thing: u32,
@@ -11,7 +11,7 @@ pub struct Doubt {
 }
 
 /// How a point came out.
-#[derive(Clone, Copy, Debug, PartialEq, Eq)]
+#[derive(Clone, Copy)]
 pub enum Verdict {
     Hit,
     Missed,

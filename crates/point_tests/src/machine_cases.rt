@@ -56,7 +56,7 @@ pub(crate) static MACHINE_CASES: &[Case] = &[
 ];
 
 /// What a list is refused for.
-#[derive(Clone, Copy, PartialEq, Eq)]
+#[derive(Clone, Copy)]
 pub(crate) enum FaultKind {
     NoState,
     SameState,

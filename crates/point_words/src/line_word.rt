@@ -2,7 +2,7 @@ ghost use Rattle.std.specs.Prelude.{◌≡◌};
 ghost use Rattle.point_words.specs.Words.{line_word_text, line_word_of};
 
 /// The kind of the statement of a line point (IEEE 1364-2001 clause 9).
-#[derive(Clone, Copy, Debug, PartialEq, Eq)]
+#[derive(Clone, Copy, PartialEq, Eq)]
 pub enum LineWord {
     If,
     /// `case`, `casez` or `casex`.

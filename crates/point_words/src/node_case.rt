@@ -2,7 +2,7 @@ ghost use Rattle.std.specs.Prelude.{◌≡◌};
 ghost use Rattle.point_words.specs.Words.{node_case_text, node_case_of, node_case_rank};
 
 /// One case of a counted node: the truths of its operands, or of the node itself.
-#[derive(Clone, Copy, Debug, PartialEq, Eq)]
+#[derive(Clone, Copy, PartialEq, Eq)]
 pub enum NodeCase {
     /// `0`: the node itself is false.
     ValueFalse,

@@ -4,7 +4,7 @@ ghost use Rattle.point_words.specs.Words.{operator_text, operator_of, can_have, 
 use crate::NodeCase;
 
 /// The operator of a counted node as it is written (IEEE 1364-2001 clause 4.1), or the value of a condition.
-#[derive(Clone, Copy, Debug, PartialEq, Eq)]
+#[derive(Clone, Copy)]
 pub enum Operator {
     /// `value`: the condition of an `if` or a `?:` that is no operator.
     Value,

@@ -19,7 +19,7 @@ $enddefinitions $end
 ";
 
 /// What comes after the lines that were made.
-#[derive(Clone, Copy, Debug, PartialEq, Eq)]
+#[derive(Clone, Copy)]
 pub(crate) enum Next {
     /// The clock is 0: a step begins, or the dump ends.
     Low,

@@ -5,7 +5,7 @@ ghost use Rattle.selfrun_files.specs.Inputs.{inputs_of, next_number};
 const FIRST_STEPS: u32 = 16;
 
 /// What the inputs beside the clock are in a step.
-#[derive(Clone, Copy, Debug, PartialEq, Eq)]
+#[derive(Clone, Copy)]
 pub(crate) struct Inputs {
     /// Whether a word is written, and not read.
     pub(crate) we: bool,

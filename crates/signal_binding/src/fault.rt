@@ -3,15 +3,13 @@ ghost use Rattle.signal_binding.specs.declared.fault.BindFault.TheVariants as bi
 
 use cov_host::NoMemory;
 use std::alloc::AllocFailed;
-use thiserror::Error;
 
 /// Why the signals of a design are not bound to the variables of a dump.
-#[derive(Clone, Copy, Debug, PartialEq, Eq, Error)]
+#[derive(Clone, Copy)]
 pub enum BindFault {
-    #[error("memory ran out")]
+    /// Memory ran out.
     NoMemory,
     /// No variable is in the scope of the instance or below it.
-    #[error("no such instance")]
     NoInstance,
 }
 

@@ -13,7 +13,7 @@ use cover_marks::{Marks, Visit};
 use design_model::Signal;
 
 /// Bits of a signal that toggle in one direction.
-#[derive(Clone, Copy, Debug, PartialEq, Eq)]
+#[derive(Clone, Copy)]
 pub struct Toggling {
     /// The number of the signal.
     pub signal: u32,

@@ -14,7 +14,7 @@ use verilog_parser::ParseKind;
 use whole_files::{Call, warn_file, warn_pieces};
 
 /// What is wrong with sources, by the stage that finds it.
-#[derive(Clone, Copy, Debug, PartialEq, Eq)]
+#[derive(Clone, Copy)]
 pub enum SourceKind {
     Lex(LexKind),
     Parse(ParseKind),
@@ -37,7 +37,7 @@ impl SourceKind {
 }
 
 /// A place in a source, by the source's name. Lines and columns are counted from 1, columns in bytes.
-#[derive(Debug, Drop)]
+#[derive(Drop)]
 pub struct SourceSpot {
     /// The name of the source.
     pub file: Name,
@@ -48,7 +48,7 @@ pub struct SourceSpot {
 }
 
 /// Why sources are refused. The detail is a name or a form, and neither it nor the place is there for every kind.
-#[derive(Debug, Drop)]
+#[derive(Drop)]
 pub struct SourceRefusal {
     /// What is wrong.
     pub kind: SourceKind,
@@ -77,7 +77,7 @@ impl SourceRefusal {
 }
 
 /// Why no design was read.
-#[derive(Debug, Drop)]
+#[derive(Drop)]
 pub enum SourceFault<'a> {
     NoMemory,
     /// A call on the host gave nothing for a file of the words.

@@ -7,7 +7,7 @@ use verilog_lexer::LexKind;
 use whole_files::Call;
 
 /// Why a file did not join the sources.
-#[derive(Debug, Drop)]
+#[derive(Drop)]
 pub enum JoinFault {
     NoMemory,
     /// The call on the host gave nothing.
@@ -25,7 +25,7 @@ impl From<AllocError> for JoinFault {
 }
 
 /// The first file of the words that did not join the sources, and why.
-#[derive(Debug, Drop)]
+#[derive(Drop)]
 pub struct RootFault<'a> {
     /// The name of the file.
     pub file: &'a str,

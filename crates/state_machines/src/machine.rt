@@ -14,7 +14,7 @@ use four_state::Four;
 use std::alloc::Global;
 
 /// Why a machine has no states in an instance.
-#[derive(Clone, Copy, Debug, PartialEq, Eq)]
+#[derive(Clone, Copy)]
 pub enum MachineFault {
     NoMemory,
     /// The variable is no signal of the instance.

@@ -14,7 +14,7 @@ use early_sets::{Turns, Wakes};
 use four_state::Bit;
 
 /// A signal that changes in a step: an input, or an event signal that may become single.
-#[derive(Clone, Copy, Debug, PartialEq, Eq)]
+#[derive(Clone, Copy)]
 pub struct SignalChange {
     /// The signal.
     pub signal: u32,

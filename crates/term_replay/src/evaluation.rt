@@ -26,7 +26,7 @@ use four_state::{Binary, Four, Unary};
 use known_state::Known;
 
 /// How far a run is.
-#[derive(Clone, Copy, Debug, PartialEq, Eq)]
+#[derive(Clone, Copy)]
 pub struct Progress {
     /// What is to blame for the branch that is run, if it is one of an undecided test.
     pub mode: Option<u32>,
@@ -48,7 +48,7 @@ impl Progress {
 
 /// The value of a term, and the blame of the first read of the run that was not wholly sure, after the term is
 /// evaluated.
-#[derive(Clone, Copy, Debug, PartialEq, Eq)]
+#[derive(Clone, Copy)]
 pub struct Evaluated {
     /// The value.
     pub value: Known,
@@ -57,7 +57,7 @@ pub struct Evaluated {
 }
 
 /// The joined values of terms, if there are terms, and the blame of the first read of the run that was not wholly sure.
-#[derive(Clone, Copy, Debug, PartialEq, Eq)]
+#[derive(Clone, Copy)]
 struct Joined {
     value: Option<Known>,
     first: Option<u32>,

@@ -3,7 +3,7 @@ ghost use Rattle.std.specs.Prelude.{◌≡◌};
 use design_model::{Place, Term};
 
 /// What a term has beside its form.
-#[derive(Clone, Copy, Debug, PartialEq, Eq)]
+#[derive(Clone, Copy)]
 pub struct TermHead {
     /// Of its first token.
     pub place: Place,

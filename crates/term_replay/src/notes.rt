@@ -5,7 +5,7 @@ ghost use Rattle.term_replay.specs.Noted.{Adds, mark_of};
 use design_model::NodeCase;
 
 /// What a visit of a body counts for. The process is the one whose body runs.
-#[derive(Clone, Copy, Debug, PartialEq, Eq)]
+#[derive(Clone, Copy, PartialEq, Eq)]
 pub enum Spot {
     /// The statement with this number.
     Line(u32),
@@ -18,7 +18,7 @@ pub enum Spot {
 }
 
 /// How a word of a memory is used.
-#[derive(Clone, Copy, Debug, PartialEq, Eq)]
+#[derive(Clone, Copy)]
 pub enum Access {
     Read,
     Write,

@@ -14,7 +14,7 @@ pub struct Ranking {
 }
 
 /// A table that adds points to those that the tables before it have hit.
-#[derive(Clone, Copy, Debug, PartialEq, Eq)]
+#[derive(Clone, Copy)]
 pub struct Use {
     /// The place of the table, from 0.
     pub table: usize,

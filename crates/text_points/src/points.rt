@@ -3,7 +3,7 @@ use design_model::{LineWord, NodeCase};
 use point_words::Operator;
 
 /// The process that a point belongs to.
-#[derive(Clone, Copy, Debug, PartialEq, Eq)]
+#[derive(Clone, Copy)]
 pub struct Owner {
     /// The number of its instance in the design.
     pub instance: u32,
@@ -12,7 +12,7 @@ pub struct Owner {
 }
 
 /// A statement of a process.
-#[derive(Clone, Copy, Debug, PartialEq, Eq)]
+#[derive(Clone, Copy)]
 pub struct LinePoint {
     /// The number of its instance in the design.
     pub instance: u32,
@@ -27,7 +27,7 @@ pub struct LinePoint {
 }
 
 /// A case of a counted node of a process.
-#[derive(Clone, Copy, Debug, PartialEq, Eq)]
+#[derive(Clone, Copy)]
 pub struct NodePoint {
     /// The number of its instance in the design.
     pub instance: u32,

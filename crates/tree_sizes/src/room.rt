@@ -7,7 +7,7 @@ use verilog_tree::{Expr, ExprForm};
 
 /// How much more text may be gone through: a number of parts, with the bytes of their names. Where a text is larger,
 /// nothing is left.
-#[derive(Clone, Copy, Debug, PartialEq, Eq)]
+#[derive(Clone, Copy)]
 pub struct Room {
     /// How much is left.
     pub left: usize,

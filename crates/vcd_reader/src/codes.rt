@@ -11,7 +11,7 @@ use std::alloc::Global;
 use std::marker::Model;
 
 /// A code: its number, the size of its variables in bits, and whether one of them has a kind that is read.
-#[derive(Clone, Copy, PartialEq, Eq)]
+#[derive(Clone, Copy)]
 pub(crate) struct Code {
     pub(crate) number: u32,
     pub(crate) size: u32,

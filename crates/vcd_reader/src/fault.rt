@@ -3,10 +3,9 @@ ghost use Rattle.vcd_reader.specs.declared.fault.DumpFault.TheVariants as dump_f
 
 use cov_host::NoMemory;
 use std::alloc::{AllocError, AllocFailed};
-use thiserror::Error;
 
 /// What is wrong with a dump.
-#[derive(Clone, Copy, Debug, PartialEq, Eq)]
+#[derive(Clone, Copy, PartialEq, Eq)]
 pub enum DumpKind {
     /// A word of the header that the grammar does not allow there.
     BadHeader = 1,
@@ -66,11 +65,11 @@ impl DumpKind {
 }
 
 /// Why a dump was not read. The byte is the offset of the fault in the dump, from 0.
-#[derive(Clone, Copy, Debug, PartialEq, Eq, Error)]
+#[derive(Clone, Copy, PartialEq, Eq)]
 pub enum DumpFault {
-    #[error("memory ran out")]
+    /// Memory ran out.
     NoMemory,
-    #[error("{kind:?} at byte {byte}")]
+    /// This is wrong at this byte.
     At { kind: DumpKind, byte: u64 },
 }
 

@@ -1,7 +1,7 @@
 use four_state::Four;
 
 /// What a piece of the header came to.
-#[derive(Clone, Copy, PartialEq, Eq)]
+#[derive(Clone, Copy)]
 pub enum Fed {
     /// The piece is used up.
     More,
@@ -10,7 +10,7 @@ pub enum Fed {
 }
 
 /// What the body says next.
-#[derive(Clone, Copy, PartialEq, Eq)]
+#[derive(Clone, Copy)]
 pub enum Item {
     /// A time that is greater than the one before, in the dump's units.
     Time(u64),
@@ -28,7 +28,7 @@ pub enum Item {
 }
 
 /// What the body says next, and how many bytes of the piece were used for it.
-#[derive(Clone, Copy, PartialEq, Eq)]
+#[derive(Clone, Copy)]
 pub struct Step {
     /// What the body says.
     pub item: Item,
@@ -37,7 +37,7 @@ pub struct Step {
 }
 
 /// What the body says next, of which the body keeps the value.
-#[derive(Clone, Copy, PartialEq, Eq)]
+#[derive(Clone, Copy)]
 pub enum Saying {
     /// A time that is greater than the one before, in the dump's units.
     Time(u64),
@@ -54,7 +54,7 @@ pub enum Saying {
 }
 
 /// What the body says next, and how many bytes of the piece were used for it.
-#[derive(Clone, Copy, PartialEq, Eq)]
+#[derive(Clone, Copy)]
 pub struct Heard {
     /// What the body says.
     pub saying: Saying,

@@ -14,7 +14,7 @@ const END_DEFINITIONS: &[u8] = b"$enddefinitions";
 pub(crate) const END_WORD: &[u8] = b"$end";
 
 /// What opens a section of the header (IEEE 1364-2001 clause 18.2.3).
-#[derive(Clone, Copy, PartialEq, Eq)]
+#[derive(Clone, Copy)]
 pub(crate) enum Keyword {
     Scope,
     Upscope,

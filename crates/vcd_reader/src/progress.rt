@@ -2,7 +2,7 @@ ghost use Rattle.std.specs.Prelude.{◌≡◌};
 ghost use Rattle.vcd_reader.specs.Progress.{is_going, is_at_end};
 
 /// How far a header was read. One in which a fault was found does not go on.
-#[derive(Clone, Copy, PartialEq, Eq)]
+#[derive(Clone, Copy)]
 pub(crate) enum Progress {
     /// It goes on.
     Going,

@@ -4,7 +4,7 @@ ghost use Rattle.vcd_reader.specs.Hearing.{change_says, last_saying};
 use crate::Saying;
 
 /// What a word says that is heard.
-#[derive(Clone, Copy, PartialEq, Eq)]
+#[derive(Clone, Copy)]
 pub(crate) enum Says {
     Nothing,
     Time(u64),

@@ -5,7 +5,7 @@ use cov_host::{NoMemory, Place};
 use std::alloc::{AllocError, AllocFailed};
 
 /// What is wrong at a token.
-#[derive(Clone, Copy, Debug, PartialEq, Eq)]
+#[derive(Clone, Copy)]
 pub enum Wrong {
     /// No rule of the grammar goes on with it.
     Unexpected,
@@ -14,14 +14,14 @@ pub enum Wrong {
 }
 
 /// A fault, and how many tokens are left at it.
-#[derive(Clone, Copy, Debug, PartialEq, Eq)]
+#[derive(Clone, Copy)]
 pub struct Fault {
     pub wrong: Wrong,
     pub left: usize,
 }
 
 /// Why a phrase was not read.
-#[derive(Debug, Drop)]
+#[derive(Drop)]
 pub enum ReadFault {
     Memory,
     At(Fault),

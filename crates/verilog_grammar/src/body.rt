@@ -1,5 +1,5 @@
 /// The kind of process around a statement, which decides what it may be.
-#[derive(Clone, Copy, Debug, PartialEq, Eq)]
+#[derive(Clone, Copy)]
 pub enum Body {
     /// Under `*` or names.
     Combinational,

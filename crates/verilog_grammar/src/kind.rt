@@ -5,7 +5,7 @@ ghost use Rattle.verilog_lexer.specs.TokenView.{lexeme};
 use verilog_lexer::{Token, TokenKind};
 
 /// What a token is to the grammar: each keyword and operator is a kind of its own (IEEE 1364-2001 annex A).
-#[derive(Clone, Copy, Debug, PartialEq, Eq)]
+#[derive(Clone, Copy)]
 pub enum Kind {
     /// The end of the tokens.
     Nothing,

@@ -1,7 +1,7 @@
 ghost use Rattle.std.specs.Prelude.{◌≡◌};
 
 /// What an expression may be without parentheses round it, from the tightest (IEEE 1364-2001 clause 4.1.2).
-#[derive(Clone, Copy, Debug, PartialEq, Eq)]
+#[derive(Clone, Copy)]
 pub enum Level {
     /// An operand with the operators before it.
     Unary,

@@ -7,7 +7,7 @@ use crate::number::number_within;
 use crate::run::{byte_at, tail, white_length};
 
 /// The base of a based number (IEEE 1364-2001 clause 2.5.1).
-#[derive(Clone, Copy, PartialEq, Eq)]
+#[derive(Clone, Copy)]
 pub(crate) enum Base {
     Binary,
     Octal,

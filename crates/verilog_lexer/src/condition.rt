@@ -14,7 +14,7 @@ use smallvec::SmallVec;
 
 /// Whether the branch of a condition is read, may still come, or is past. In a part that is left out all
 /// branches are past.
-#[derive(Clone, Copy, PartialEq, Eq)]
+#[derive(Clone, Copy)]
 pub(crate) enum Branch {
     Read,
     Waiting,
@@ -22,7 +22,7 @@ pub(crate) enum Branch {
 }
 
 /// An open condition: its branch here, and whether that is the last one.
-#[derive(Clone, Copy, PartialEq, Eq)]
+#[derive(Clone, Copy)]
 pub(crate) struct Condition {
     branch: Branch,
     ended: bool,

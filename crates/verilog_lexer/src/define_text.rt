@@ -4,7 +4,7 @@ ghost use Rattle.verilog_lexer.specs.DefineText.{turn, turn_within, turn_in_code
 use crate::run::byte_at;
 
 /// What a byte of a macro's text is part of.
-#[derive(Clone, Copy, PartialEq, Eq)]
+#[derive(Clone, Copy)]
 pub(crate) enum Within {
     Code,
     Quote,
@@ -12,7 +12,7 @@ pub(crate) enum Within {
 }
 
 /// What follows a byte of a macro's text.
-#[derive(Clone, Copy, PartialEq, Eq)]
+#[derive(Clone, Copy)]
 pub(crate) struct Standing {
     within: Within,
     taken: bool,

@@ -3,7 +3,7 @@ ghost use Rattle.std.specs.Str.{bytes_eq};
 ghost use Rattle.verilog_lexer.specs.Directive.{directive_of, is_passed_over, is_refused, is_use};
 
 /// The compiler directives, and the use of a macro (IEEE 1364-2001 clause 19).
-#[derive(Clone, Copy, PartialEq, Eq)]
+#[derive(Clone, Copy)]
 pub(crate) enum Directive {
     Define,
     Undef,

@@ -4,10 +4,9 @@ ghost use Rattle.verilog_lexer.specs.declared.fault.LexFault.TheVariants as lex_
 
 use cov_host::{Name, NoMemory, Place};
 use std::alloc::{AllocError, AllocFailed};
-use thiserror::Error;
 
 /// What is wrong with a source.
-#[derive(Clone, Copy, Debug, PartialEq, Eq)]
+#[derive(Clone, Copy)]
 pub enum LexKind {
     /// A byte that begins no token, a string without its end on the line, or an identifier of more than 255 bytes.
     BadByte = 1,
@@ -61,11 +60,11 @@ impl LexKind {
 
 /// Why sources have no tokens. The place is that of the fault, and None where a file was not added. The
 /// detail is the name of an unknown macro, of a missing include or of the file that was not added.
-#[derive(Debug, Drop, Error)]
+#[derive(Drop)]
 pub enum LexFault {
-    #[error("memory ran out")]
+    /// Memory ran out.
     NoMemory,
-    #[error("{kind:?}")]
+    /// Something is wrong at a place.
     At {
         /// What is wrong.
         kind: LexKind,

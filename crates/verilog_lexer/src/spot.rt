@@ -4,7 +4,7 @@ ghost use Rattle.verilog_lexer.specs.Spot.{next_place, after, after_all, IsInRan
 use cov_host::Place;
 
 /// A place in the text. Within a macro it is where the outermost macro is used.
-#[derive(Clone, Copy, PartialEq, Eq)]
+#[derive(Clone, Copy)]
 pub(crate) struct Spot {
     pub(crate) place: Place,
     pub(crate) inside: bool,

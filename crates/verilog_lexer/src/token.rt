@@ -1,7 +1,7 @@
 use cov_host::{Place, Sequence};
 
 /// What a token is (IEEE 1364-2001 clause 2).
-#[derive(Clone, Copy, Debug, PartialEq, Eq)]
+#[derive(Clone, Copy)]
 pub enum TokenKind {
     /// A name.
     Identifier,
@@ -21,7 +21,7 @@ pub enum TokenKind {
 
 /// A token. Its text is a slice of its source or of a define, and its place is where it begins, or, if it
 /// comes from a macro, where the outermost macro is used.
-#[derive(Clone, Copy, Debug)]
+#[derive(Clone, Copy)]
 pub struct Token<'a> {
     /// What it is.
     pub kind: TokenKind,

@@ -2,10 +2,9 @@ ghost use Rattle.std.specs.Prelude.{◌≡◌};
 ghost use Rattle.verilog_parser.specs.FaultText.{parse_text};
 
 use cov_host::{Name, Place};
-use thiserror::Error;
 
 /// What is wrong with tokens.
-#[derive(Clone, Copy, Debug, PartialEq, Eq)]
+#[derive(Clone, Copy)]
 pub enum ParseKind {
     /// No rule of the grammar goes on with a token.
     Unexpected = 1,
@@ -33,11 +32,11 @@ impl ParseKind {
 
 /// Why tokens are no modules. The place is that of the token, and of the part that nests too deep, and None where the
 /// tokens end. The detail is the form that is left out.
-#[derive(Debug, Drop, Error)]
+#[derive(Drop)]
 pub enum ParseFault {
-    #[error("memory ran out")]
+    /// Memory ran out.
     NoMemory,
-    #[error("{kind:?}")]
+    /// Something is wrong at a place.
     At {
         /// What is wrong.
         kind: ParseKind,

@@ -5,7 +5,7 @@ use cov_host::Place;
 
 /// How deep an expression nests: that of a number or a name is 1, and that of any other is one more than the greatest
 /// of the expressions directly in it. The place is where the first of the innermost ones begins.
-#[derive(Clone, Copy, Debug, PartialEq, Eq)]
+#[derive(Clone, Copy, PartialEq, Eq)]
 pub struct Depth {
     /// How deep the expression nests.
     pub height: u64,
