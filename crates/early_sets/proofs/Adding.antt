@@ -1,5 +1,5 @@
 -- One insertion after another.
-use Rattle.std.proofs.Common.{◌≡◌, ◌⊎◌, ◌↔◌, inl, inr, ⊎_elim, ◌∙◌, ℕ, ◌+◌, ◌<◌, ◌≤◌, Bool, true, false, cond, List, [], ◌∷◌, ◌++◌, Option, None, length, get_or, take, refl, sym, ap, subst, arith, append_assoc, append-nil}
+use Rattle.std.proofs.Common.{◌≡◌, ◌⊎◌, ◌↔◌, inl, inr, ⊎_elim, ◌∙◌, ℕ, ◌+◌, ◌<◌, ◌≤◌, Bool, true, false, cond, List, [], ◌∷◌, ◌++◌, Option, None, length, get_or, take, refl, sym, ap, subst, arith, append_assoc, append-nil, length-append}
 use Rattle.std.specs.List.{Contains}
 use Rattle.std.proofs.lemmas.Bool.{both_ways, cases_lt}
 use Rattle.std.proofs.lemmas.List.{get_or_append_left, get_or_default, take_more}
@@ -26,6 +26,10 @@ extends_has xs ys x h c = subst (λ zs. Contains zs x) (sym h.is) (Contains-appe
 -- at its place
 pub extends_at : (xs ys : List ℕ) (k : ℕ) → Extends xs ys → k < length xs → get_or ys k 0 ≡ get_or xs k 0
 extends_at xs ys k h l = ap (λ zs. get_or zs k 0) h.is ∙ get_or_append_left xs h.more 0 k l
+
+-- there are no fewer than before
+pub extends_longer : (xs ys : List ℕ) → Extends xs ys → length xs ≤ length ys
+extends_longer xs ys h = omega (arith, ap length h.is, length-append xs h.more)
 
 -- the member at a place
 pub member_at : (xs : List ℕ) (k x : ℕ) → k < length xs → get_or xs k 0 ≡ x → Contains xs x

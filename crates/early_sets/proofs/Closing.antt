@@ -1,5 +1,5 @@
 -- A work list of things and of the processes that they may wake.
-use Rattle.std.proofs.Common.{◌≡◌, ◌↔◌, ⊎_elim, ℕ, ◌+◌, ◌<◌, ◌≤◌, List, [], length, get_or, refl, sym, subst, arith}
+use Rattle.std.proofs.Common.{◌≡◌, ◌↔◌, ⊎_elim, ℕ, ◌+◌, ◌-◌, ◌<◌, ◌≤◌, List, [], length, get_or, refl, sym, subst, arith}
 use Rattle.std.specs.List.{Contains}
 use Rattle.std.proofs.lemmas.Bool.{cases_lt}
 use Rattle.wake_tables.specs.declared.tables.WakeTables.{WakeTables}
@@ -83,3 +83,7 @@ module _ (t : WakeTables) (edges : ℕ → Edges) (r : Rule) (seeds : List ℕ) 
 pub reached_from : (t : WakeTables) (edges : ℕ → Edges) (r : Rule) (P Q : ℕ → Type 0) → ((x : ℕ) → P x → Q x) → (x : ℕ) → Reached t edges r P x → Reached t edges r Q x
 reached_from t edges r P Q f x (of_seed _ h) = of_seed x (f x h)
 reached_from t edges r P Q f y (of_target x p _ m wakes target) = of_target x p y (reached_from t edges r P Q f x m) wakes target
+
+-- with one thing more taken, fewer are left of the size, which stays
+pub fewer_left : (taken members size size_after : ℕ) → taken < members → members ≤ size → size_after ≡ size → size_after - (taken + 1) < size - taken
+fewer_left taken members size size_after l m e = omega arith

@@ -1,8 +1,8 @@
 -- A number for each member of a list.
-use Rattle.std.proofs.Common.{◌≡◌, ⊎_elim, ◌∙◌, ℕ, ◌+◌, ◌<◌, List, [], ◌∷◌, ◌++◌, length, get_or, set, take, refl, sym, ap, subst, arith}
+use Rattle.std.proofs.Common.{◌≡◌, ⊎_elim, ◌∙◌, ℕ, ◌+◌, ◌<◌, ◌≤◌, List, [], ◌∷◌, ◌++◌, length, get_or, set, take, refl, sym, ap, subst, arith}
 use Rattle.std.specs.List.{Contains}
 use Rattle.std.proofs.lemmas.Bool.{cases_eq}
-use Rattle.std.proofs.lemmas.List.{get_or-set_other, get_or-set_same, length-set, take_more}
+use Rattle.std.proofs.lemmas.List.{get_or-set_other, get_or-set_same, length-set, take_all, take_more}
 use Rattle.std.proofs.lemmas.List.Elements.{Contains-append_left, Contains-push, Contains-push_cases}
 
 -- the members have the number n, and the others what they had before
@@ -33,3 +33,7 @@ numbered_more xs i n before now after l below is so =
           let ne : x ≡ y → ⊥ = λ e. none (subst (λ zs. Contains zs x) (sym more) (subst (Contains (take i xs ++ y ∷ [])) (sym e) (Contains-push (take i xs) y))) in
           ap (λ zs. get_or zs x 0) is ∙ get_or-set_other now y x n 0 ne ∙ so.others x (λ c. none (subst (λ zs. Contains zs x) (sym more) (Contains-append_left (take i xs) (y ∷ []) x c)));
     }
+
+-- all members were taken
+pub numbered_all : (xs : List ℕ) (i n : ℕ) (before after : List ℕ) → length xs ≤ i → AreNumbered (take i xs) n before after → AreNumbered xs n before after
+numbered_all xs i n before after l so = subst (λ ys. AreNumbered ys n before after) (take_all i xs l) so

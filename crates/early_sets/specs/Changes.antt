@@ -1,7 +1,5 @@
 -- What is known of the changes of a step.
-use Rattle.std.specs.Prelude.{◌≡◌, ◌==◌, ◌||◌, if◌then◌else◌, ℕ, Bool, false, List, length, slice_index_or}
-use Rattle.std.specs.List.{list_any}
-use Rattle.index_sets.specs.Members.{Members}
+use Rattle.std.specs.Prelude.{◌||◌, if◌then◌else◌, ℕ, Bool, false, List, slice_index_or}
 use Rattle.early_sets.specs.declared.edges.Edges.{Edges}
 use Rattle.early_sets.specs.declared.changes.Changes.{Changes}
 use Rattle.early_sets.specs.Edges.{any_edges, no_edges}

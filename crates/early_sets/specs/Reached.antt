@@ -1,5 +1,5 @@
 -- What some things reach through the processes that they may wake, by tables.
-use Rattle.std.specs.Prelude.{◌≡◌, ◌⊎◌, ◌<◌, ◌≤◌, ◌==◌, ℕ, Bool, true, false, not, List, Option, Some, None, slice_index}
+use Rattle.std.specs.Prelude.{◌≡◌, ◌⊎◌, ◌<◌, ◌≤◌, ◌==◌, ℕ, Bool, true, not, List, Option, Some, None, slice_index}
 use Rattle.std.specs.List.{Contains}
 use Rattle.index_sets.specs.Rows.{row_at}
 use Rattle.wake_tables.specs.declared.tables.WakeTables.{WakeTables}

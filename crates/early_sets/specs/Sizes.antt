@@ -1,9 +1,30 @@
 -- The sizes of the sets of a step.
-use Rattle.std.specs.Prelude.{◌≡◌, ◌<◌, ◌^◌, ℕ, Bool, List, Option, Some, None, length, slice_index_or}
+use Rattle.std.specs.Prelude.{◌≡◌, ◌<◌, ◌^◌, ℕ, Bool, List, [], Option, Some, None, length, slice_index_or}
 use Rattle.std.specs.List.{Contains}
 use Rattle.index_sets.specs.Members.{Members}
 use Rattle.wake_tables.specs.declared.tables.WakeTables.{WakeTables}
 use Rattle.early_sets.specs.declared.edges.Edges.{Edges}
+use Rattle.early_sets.specs.declared.sets.Sets.{Sets}
+
+-- a set of numbers below a size has no members
+pub record IsEmpty (set : Members) (size : ℕ) : Type 0 where
+  pub size_is : set.size ≡ size
+  pub items_are : set.items ≡ []
+
+-- so have two of one size
+pub record AreTwoEmpty (sets : Members × Members) (size : ℕ) : Type 0 where
+  pub first_is : IsEmpty sets.0 size
+  pub second_is : IsEmpty sets.1 size
+
+-- what a step finds is empty before the first step, for so many things and processes
+pub record AreNew (sets : Sets) (things processes : ℕ) : Type 0 where
+  pub noted_is : IsEmpty sets.noted things
+  pub ready_is : IsEmpty sets.ready things
+  pub rounds_are : length sets.rounds.items ≡ things
+  pub moves_is : IsEmpty sets.moves things
+  pub woken_is : IsEmpty sets.woken processes
+  pub early_is : IsEmpty sets.early things
+  pub early_woken_is : IsEmpty sets.early_woken processes
 
 -- what is known of the changes of a step is of one size
 pub record AreChangeSizes (told : List Bool) (own : List Edges) (changed derived : Members) : Type 0 where

@@ -7,13 +7,13 @@ ghost use Rattle.early_sets.specs.Has.{is_in};
 ghost use Rattle.early_sets.specs.Sizes.{AreChangeSizes};
 
 use crate::closure::{insert_members, insert_where};
+use crate::sets::two_sets;
 use crate::{Edges, Turns};
 use cov_host::NoMemory;
 use index_sets::IndexSet;
 use std::alloc::Global;
 
 /// What is known of the changes of the signals and memories in a step.
-#[derive(Drop)]
 pub(crate) struct Changes {
     /// For each signal or memory whether it is an input whose changes are reported.
     pub(crate) told: Vec<bool>,
@@ -26,6 +26,18 @@ pub(crate) struct Changes {
     ghost sizes: { AreChangeSizes told.items own.items changed derived },
 }
 
+// Written out so that a function which lets one go does not prove again how each of its parts is let go.
+impl Drop for Changes {
+    fn drop(self) {
+        let Changes {
+            told: _,
+            own: _,
+            changed: _,
+            derived: _,
+        } = self;
+    }
+}
+
 impl Changes {
     ghost use Rattle.early_sets.specs.Changes.{edges_of, is_single_by, is_told_by, own_edges_by};
 
@@ -36,8 +48,7 @@ impl Changes {
         ensures derived { IfOk result (λ changes. changes.derived.items ≡ []) }
     {
         let own = vec![in alloc; Edges::NONE; told.len()]?;
-        let changed = IndexSet::new(alloc, told.len())?;
-        let derived = IndexSet::new(alloc, told.len())?;
+        let (changed, derived) = two_sets(alloc, told.len())?;
         Ok(Changes {
             told,
             own,

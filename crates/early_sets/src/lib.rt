@@ -18,6 +18,7 @@ mod edges;
 mod habit;
 mod rounds;
 mod rule;
+mod sets;
 mod turns;
 mod wakes;
 

@@ -1,4 +1,4 @@
-ghost use Rattle.std.specs.Prelude.{◌≡◌, ◌<◌, ◌≤◌, ◌↔◌, ◌+◌, ◌*◌, ◌^◌, ◌&&◌, if◌then◌else◌, [], ℕ, IfOk, IfSome, IsFalse, IsSome, IsTrue, false, length, not, slice_set, true};
+ghost use Rattle.std.specs.Prelude.{◌≡◌, ◌==◌, ◌<◌, ◌≤◌, ◌↔◌, ◌+◌, ◌*◌, ◌^◌, ◌&&◌, if◌then◌else◌, [], ℕ, IfOk, IfSome, IsFalse, IsSome, IsTrue, false, length, not, slice_set, true};
 ghost use Rattle.std.specs.List.{Contains};
 ghost use Rattle.index_sets.specs.Rows.{row_at};
 ghost use Rattle.early_sets.specs.Adds.{Adds};
@@ -9,6 +9,7 @@ use crate::changes::Changes;
 use crate::closure::{close, insert_members, insert_row, insert_where, wake};
 use crate::early::{habit_for, insert_inputs, insert_targets};
 use crate::rounds::number;
+use crate::sets::Sets;
 use crate::{Edges, Habit, Rule, Turns, Uncounted};
 use cov_host::NoMemory;
 use four_state::{Bit, Edge};
@@ -89,13 +90,15 @@ impl Wakes {
         ensures noted { IfOk result (λ wakes. (state_of wakes).noted ≡ []) }
     {
         let changes = Changes::new(alloc, told)?;
-        let noted = IndexSet::new(alloc, tables.things)?;
-        let ready = IndexSet::new(alloc, tables.things)?;
-        let rounds = vec![in alloc; 0; tables.things]?;
-        let moves = IndexSet::new(alloc, tables.things)?;
-        let woken = IndexSet::new(alloc, tables.processes)?;
-        let early = IndexSet::new(alloc, tables.things)?;
-        let early_woken = IndexSet::new(alloc, tables.processes)?;
+        let Sets {
+            noted,
+            ready,
+            rounds,
+            moves,
+            woken,
+            early,
+            early_woken,
+        } = Sets::new(alloc, tables.things, tables.processes)?;
         Ok(Wakes {
             tables,
             untold,
@@ -460,6 +463,14 @@ impl Wakes {
         self.moves.contains(signal as usize) && self.changes.edges(signal as usize).may_be(edge)
     }
 
+    /// Whether the signal is another one than `except` and may move by this edge.
+    fn wakes_beside(&self, edge: Edge, signal: u32, except: u32) -> bool
+        requires { signal < (state_of self.now).tables.things }
+        ensures { result ≡ (not (signal == except) && can_wake_by (state_of self.now) (edge, signal)) }
+    {
+        signal != except && self.can_wake_by(edge, signal)
+    }
+
     /// Whether the process can wake by no event signal but this one.
     fn wakes_only_by<T: Turns>(&self, process: u32, signal: u32, turns: &mut T) -> bool
         requires { process < (state_of self.now).tables.processes }
@@ -468,7 +479,7 @@ impl Wakes {
     {
         for (edge, other) in self.tables.events.row(process as usize) {
             turns.count();
-            if *other != signal && self.can_wake_by(*edge, *other) {
+            if self.wakes_beside(*edge, *other, signal) {
                 return false;
             }
         }

@@ -1,16 +1,41 @@
-use Rattle.std.proofs.Common.{◌∙◌, length, refl, sym, ap, subst, arith, length-append}
+use Rattle.std.proofs.Common.{◌∙◌, ◌<◌, ◌≤◌, length, refl, sym, ap, subst, arith, length-append}
 use Rattle.std.proofs.lemmas.List.Sums.{sum_by-take-le}
 use Rattle.early_sets.specs.Changes.{edges_of}
 use Rattle.early_sets.specs.Once.{IsOnce}
 use Rattle.early_sets.specs.Turns.{member_turns}
+use Rattle.early_sets.proofs.Adding.{extends_longer}
 use Rattle.early_sets.proofs.Counting.{member_counted, once_none}
-use Rattle.early_sets.proofs.Closing.{IsClosing, closed_processes, closed_things, closing_more, closing_none}
+use Rattle.early_sets.proofs.Closing.{IsClosing, closed_processes, closed_things, closing_more, closing_none, fewer_left}
 use Rattle.early_sets.proofs.closure.close.Goals as goal
 
 pub members-init : goal.members-init
 members-init g c =
     let none = closing_none c.args.tables.now (edges_of c.args.changes.now) c.args.rule c.args.things.now.items in
     (refl, refl, omega arith, subst (λ ps. IsClosing c.args.tables.now (edges_of c.args.changes.now) c.args.rule c.args.things.now.items c.args.things.now.items ps 0) (sym c.requires.none_woken) none, λ o. o, subst IsOnce (sym c.requires.none_woken) once_none, omega (arith, sum_by-take-le (member_turns c.args.tables.now) c.args.things.now.items 0))
+
+pub get-requires : goal.get-requires
+get-requires g c = subst (λ n. c.members.taken < n) c.len.ensures.value c.members-test.true
+
+pub wake-requires-clause-changes : goal.wake-requires-clause-changes
+wake-requires-clause-changes g c = c.requires.changes
+
+pub wake-requires-clause-thing : goal.wake-requires-clause-thing
+wake-requires-clause-thing g c = subst (λ n. c.get.result < n) (c.members.invariant.0 ∙ c.requires.things) c.get.ensures.below
+
+pub wake-requires-clause-size : goal.wake-requires-clause-size
+wake-requires-clause-size g c = c.members.invariant.1 ∙ c.requires.processes
+
+pub write_all-requires-clause-processes : goal.write_all-requires-clause-processes
+write_all-requires-clause-processes g c = c.wake.ensures.size ∙ (c.members.invariant.1 ∙ c.requires.processes)
+
+pub write_all-requires-clause-things : goal.write_all-requires-clause-things
+write_all-requires-clause-things g c = c.members.invariant.0 ∙ c.requires.things
+
+pub write_all-requires-clause-from : goal.write_all-requires-clause-from
+write_all-requires-clause-from g c = subst (λ n. n ≤ length c.wake.new.processes.items) (sym c.len-known.ensures.value) (extends_longer c.members.processes.items c.wake.new.processes.items c.wake.ensures.adds.extends)
+
+pub members-smaller : goal.members-smaller
+members-smaller g c = fewer_left c.members.taken c.len.result c.members.things.size c.write_all.new.things.size c.members-test.true c.len.ensures.within c.write_all.ensures.size
 
 pub members-preserved : goal.members-preserved
 members-preserved g c =
@@ -28,6 +53,12 @@ members-preserved g c =
       woken.once c.members.invariant.5,
       counted,
     )
+
+pub returns-clause-things_size : goal.returns-clause-things_size
+returns-clause-things_size g c = c.members.invariant.0
+
+pub returns-clause-processes_size : goal.returns-clause-processes_size
+returns-clause-processes_size g c = c.members.invariant.1
 
 pub returns-clause-things : goal.returns-clause-things
 returns-clause-things g c = closed_things c.args.tables.now (edges_of c.args.changes.now) c.args.rule c.args.things.now.items c.members.things.items c.members.processes.items c.members.taken c.members.invariant.3 (omega (arith, c.len.ensures.value))

@@ -1,4 +1,4 @@
-use Rattle.std.proofs.Common.{◌≡◌, ◌∙◌, ◌&&◌, true, false, None, Some, sym, ap, arith}
+use Rattle.std.proofs.Common.{◌≡◌, ◌∙◌, ◌&&◌, true, None, Some, sym, ap, arith}
 use Rattle.std.proofs.lemmas.Bool.{and_from, cond-true}
 use Rattle.early_sets.specs.WakeState.{is_single, state_of, trigger_by, wakes_only_by}
 use Rattle.early_sets.proofs.wakes.Wakes.find_trigger.Goals as goal

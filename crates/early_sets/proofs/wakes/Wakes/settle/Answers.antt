@@ -1,4 +1,4 @@
-use Rattle.std.proofs.Common.{◌≡◌, ◌∙◌, ◌∷◌, ap, subst, sym, arith}
+use Rattle.std.proofs.Common.{◌∙◌, ◌∷◌, ap, subst, sym, arith}
 use Rattle.std.proofs.lemmas.List.Sums.{sum_by-cons}
 use Rattle.early_sets.specs.Rounds.{IsNextRound, becomes_single}
 use Rattle.early_sets.specs.Settled.{HasSettled}
