@@ -1,4 +1,4 @@
-ghost use Rattle.std.specs.Prelude.{◌≡◌, ◌+◌, ◌<◌, ◌≤◌, ◌∷◌, [], ℕ, IfOk, None, Some, List, drop, false, length, slice_set, true};
+ghost use Rattle.std.specs.Prelude.{◌≡◌, ◌+◌, ◌<◌, ◌≤◌, ◌∷◌, [], ℕ, IfOk, None, Some, List, drop, false, length, slice_set, true, vec_capacity};
 ghost use Rattle.write_log.specs.design_model.Design.{Design};
 ghost use Rattle.memory_rebuild.specs.body_replay.Store.{Kept as KeptCells, keep_all, write_word};
 ghost use Rattle.memory_rebuild.specs.Words.{StandsFor, count};
@@ -59,13 +59,16 @@ impl WordLog {
     ) -> Result<Self, NoMemory>
         ensures { IfOk result (λ log. log ≡ record { done = []; undone = []; tests = []; room = room; depth = depth; sizes = sizes_of memories.now }) }
     {
+        let seen = Seen::new(alloc, memories)?;
+        let tests = Vec::with_capacity(alloc, depth)?;
+        let (done, undone) = two_lists(alloc, room)?;
         Ok(WordLog {
-            done: Vec::with_capacity(alloc, room)?,
-            undone: Vec::with_capacity(alloc, room)?,
-            tests: Vec::with_capacity(alloc, depth)?,
+            done,
+            undone,
+            tests,
             room,
             depth,
-            seen: Seen::new(alloc, memories)?,
+            seen,
         })
     }
 
@@ -194,4 +197,17 @@ impl WordLog {
             self.done.clear();
         }
     }
+}
+
+/// Two empty lists with room for so many entries each.
+fn two_lists(
+    alloc: Global,
+    room: usize,
+) -> Result<(Vec<OverwrittenWord>, Vec<OverwrittenWord>), NoMemory>
+    ensures empty { IfOk result (λ lists. (lists.0.items ≡ []) × (lists.1.items ≡ [])) }
+    ensures room { IfOk result (λ lists. (room ≤ vec_capacity lists.0) × (room ≤ vec_capacity lists.1)) }
+{
+    let done = Vec::with_capacity(alloc, room)?;
+    let undone = Vec::with_capacity(alloc, room)?;
+    Ok((done, undone))
 }

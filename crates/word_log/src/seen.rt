@@ -1,4 +1,4 @@
-ghost use Rattle.std.specs.Prelude.{◌≡◌, ◌<◌, ◌==◌, ◌&&◌, ◌||◌, [], ℕ, IfOk, false, length, map, if◌then◌else◌, not, slice_index_or};
+ghost use Rattle.std.specs.Prelude.{◌≡◌, ◌<◌, ◌==◌, ◌&&◌, ◌||◌, ◌++◌, ◌∷◌, [], ℕ, IfOk, OnOk, false, length, map, if◌then◌else◌, not, slice_index_or};
 ghost use Rattle.write_log.specs.Entries.{has};
 ghost use Rattle.word_log.specs.Logs.{sizes_of};
 ghost use Rattle.word_log.specs.Seen.{seen_sizes, sees_memory, sees_word, words_seen};
@@ -10,12 +10,21 @@ use std::alloc::Global;
 use std::marker::Model;
 
 /// The words, and their memories, that the end of an undecided test has joined.
-#[derive(Drop)]
 pub(crate) struct Seen {
     /// The memories.
     memories: IndexSet,
     /// For each memory its words.
     words: Vec<IndexSet>,
+}
+
+// Written out so that a function which lets one go does not prove again how each of its parts is let go.
+impl Drop for Seen {
+    fn drop(self) {
+        let Seen {
+            memories: _,
+            words: _,
+        } = self;
+    }
 }
 
 /// What was seen for the first time.
@@ -84,9 +93,18 @@ fn sets_of(alloc: Global, memories: &[StoredMemory]) -> Result<Vec<IndexSet>, No
 {
     let mut sets = Vec::with_capacity(alloc, memories.len())?;
     for memory in memories {
-        sets.push(IndexSet::new(alloc, memory.words.len())?)?;
+        add_set(alloc, &mut sets, memory.words.len())?;
     }
     Ok(sets)
+}
+
+/// Adds an empty set of numbers below `size`.
+fn add_set(alloc: Global, sets: &mut Vec<IndexSet>, size: usize) -> Result<(), NoMemory>
+    ensures sizes { OnOk result (map (λ s. s.size) sets.new.items ≡ map (λ s. s.size) sets.old.items ++ size ∷ []) }
+    ensures empty { OnOk result (((i : ℕ) → words_seen sets.old.items i ≡ []) → (i : ℕ) → words_seen sets.new.items i ≡ []) }
+{
+    sets.push(IndexSet::new(alloc, size)?)?;
+    Ok(())
 }
 
 /// Takes all members out of each of the sets whose numbers are members.
