@@ -6,8 +6,11 @@ use Rattle.std.proofs.Math.Seq.{map-set_same}
 use Rattle.std.proofs.lemmas.Bool.{eqb-true, false≢true}
 use Rattle.std.proofs.lemmas.List.{length-map, take_more}
 use Rattle.index_sets.specs.Members.{Members}
+use Rattle.memory_rebuild.specs.Words.{count}
 use Rattle.write_log.specs.Entries.{has}
 use Rattle.write_log.proofs.Joins.{contains_has, has_append, has_contains}
+use Rattle.word_log.specs.declared.memory.StoredMemory.{StoredMemory}
+use Rattle.word_log.specs.Logs.{sizes_of}
 use Rattle.word_log.specs.Seen.{AreSeen, words_seen}
 
 pub or_false : (t : Bool) → (t || false) ≡ t
@@ -127,3 +130,13 @@ seen_kept memories memories' sets m new a size h inside =
 
 pub sizes_length : (sets sets' : List Members) → map (λ s. s.size) sets' ≡ map (λ s. s.size) sets → length sets' ≡ length sets
 sizes_length sets sets' e = sym (length-map sets' (λ (s : Members). s.size)) ∙ ap length e ∙ length-map sets (λ (s : Members). s.size)
+
+-- there are as many sets as memories
+pub sizes_count : (sets : List Members) (all : List StoredMemory) → map (λ s. s.size) sets ≡ sizes_of all → length sets ≡ length all
+sizes_count sets all e = sym (length-map sets (λ (s : Members). s.size)) ∙ ap length e ∙ length-map all (λ (r : StoredMemory). count r.words.shape)
+
+-- the sizes of one memory more
+pub sizes_more : (all : List StoredMemory) (i : ℕ) (r : StoredMemory) → i < length all → r ≡ get_or all i r → sizes_of (take (i + 1) all) ≡ sizes_of (take i all) ++ count r.words.shape ∷ []
+sizes_more all i r l is =
+    ap sizes_of (take_more all i r l) ∙ map_push (λ (m : StoredMemory). count m.words.shape) (take i all) (get_or all i r)
+    ∙ ap (λ (m : StoredMemory). sizes_of (take i all) ++ count m.words.shape ∷ []) (sym is)

@@ -154,23 +154,3 @@ kept_around ts done undone done' es now before h added is = ap (λ l. tests_of t
 -- of the entries of one write there are no more than this
 pub within_more : (more done undone count room : ℕ) → more ≤ done + count + 1 → done + undone + count + 1 ≤ room → more + undone ≤ room
 within_more more done undone count room few left = omega arith
-
--- for what is put back
-pub room_back : (from to left room capacity : ℕ) → from + to ≤ room → room ≤ capacity → (from - left) + to ≤ capacity
-room_back from to left room capacity used within = omega arith
-
-pub used_back : (from to left from' to' : ℕ) → from' ≡ left → to' + left ≡ to + from → from' + to' ≡ from + to
-used_back from to left from' to' less more = omega arith
-
-pub used_after : (done undone from to left : ℕ) → from ≡ left → to + left ≡ done + undone → to + from ≤ done + undone
-used_after done undone from to left less more = omega arith
-
-pub used_cleared : (done undone none from to left : ℕ) → none ≡ 0 → from ≡ left → to + left ≡ done + undone → none + from ≤ done + undone
-used_cleared done undone none from to left is less more = omega arith
-
--- the test that began with so many entries is still around
-pub still_begun : (begun now : ℕ) → now ≡ begun → begun ≤ now
-still_begun begun now is = omega arith
-
-pub still_undone : (begun undone from to to' : ℕ) → begun ≤ from → undone ≤ to → to' + begun ≡ to + from → undone ≤ to'
-still_undone begun undone from to to' within below more = omega arith

@@ -1,5 +1,5 @@
 -- The undecided tests around a log, as it changes.
-use Rattle.std.proofs.Common.{◌≡◌, inl, ℕ, ◌-◌, ◌≤◌, ◌==◌, Bool, true, false, not, if◌then◌else◌, List, [], ◌∷◌, ◌++◌, length, take, drop, append_assoc, Some, None, refl, sym, ap, ap₂, subst, ◌∙◌, arith}
+use Rattle.std.proofs.Common.{◌≡◌, inl, ℕ, ◌+◌, ◌-◌, ◌≤◌, ◌==◌, Bool, true, false, not, if◌then◌else◌, List, [], ◌∷◌, ◌++◌, length, take, drop, append_assoc, Some, None, refl, sym, ap, ap₂, subst, ◌∙◌, arith}
 use Rattle.std.proofs.Math.Path.{fun_ext}
 use Rattle.std.proofs.Math.Seq.{take-length}
 use Rattle.std.proofs.lemmas.Bool.{eqb-true, false≢true}
@@ -182,3 +182,25 @@ tests_within [] n more m e l h = absurd (false≢true e)
 tests_within (t ∷ ts) n more m e l h =
     let here : t.done ≤ n = h.0 in
     (omega (arith, here, l), h.1, h.2, h.3)
+
+-- ---- the room of a log
+
+-- for what is put back
+pub room_back : (from to left room capacity : ℕ) → from + to ≤ room → room ≤ capacity → (from - left) + to ≤ capacity
+room_back from to left room capacity used within = omega arith
+
+pub used_back : (from to left from' to' : ℕ) → from' ≡ left → to' + left ≡ to + from → from' + to' ≡ from + to
+used_back from to left from' to' less more = omega arith
+
+pub used_after : (done undone from to left : ℕ) → from ≡ left → to + left ≡ done + undone → to + from ≤ done + undone
+used_after done undone from to left less more = omega arith
+
+pub used_cleared : (done undone none from to left : ℕ) → none ≡ 0 → from ≡ left → to + left ≡ done + undone → none + from ≤ done + undone
+used_cleared done undone none from to left is less more = omega arith
+
+-- the test that began with so many entries is still around
+pub still_begun : (begun now : ℕ) → now ≡ begun → begun ≤ now
+still_begun begun now is = omega arith
+
+pub still_undone : (begun undone from to to' : ℕ) → begun ≤ from → undone ≤ to → to' + begun ≡ to + from → undone ≤ to'
+still_undone begun undone from to to' within below more = omega arith

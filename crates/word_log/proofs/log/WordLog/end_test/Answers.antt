@@ -6,7 +6,7 @@ use Rattle.std.proofs.lemmas.List.Elements.{All-drop, All-nil, All-take}
 use Rattle.write_log.specs.Logs.{is_second}
 use Rattle.write_log.specs.Rooms.{AreTests}
 use Rattle.write_log.specs.declared.entry.Test.{Test}
-use Rattle.write_log.proofs.Tests.{inside_some, tests_within}
+use Rattle.write_log.proofs.Tests.{inside_some, room_back, tests_within, used_after, used_cleared}
 use Rattle.word_log.specs.declared.entry.OverwrittenWord.{OverwrittenWord}
 use Rattle.word_log.specs.declared.memory.StoredMemory.{StoredMemory}
 use Rattle.word_log.specs.Entries.{Fits, IsCommon}
@@ -14,7 +14,7 @@ use Rattle.word_log.specs.Logs.{WordLogState, around, left_of, tests_of}
 use Rattle.word_log.specs.Memories.{SameShapes}
 use Rattle.word_log.specs.Seen.{sees_memory, sees_word}
 use Rattle.word_log.proofs.Shapes.{all_under, shapes_both, sizes_same}
-use Rattle.word_log.proofs.Tests.{end_around, end_common, room_back, used_after, used_cleared}
+use Rattle.word_log.proofs.Tests.{end_around, end_common}
 use Rattle.word_log.proofs.log.WordLog.end_test.Goals as goal
 
 pub put_all_back-requires-clause-left : goal.put_all_back-requires-clause-left

@@ -1,4 +1,4 @@
-use Rattle.std.proofs.Common.{◌≡◌, ◌≢◌, ◌+◌, ◌≤◌, ◌++◌, [], true, ℕ, List, ap, arith, length, length-append, reverse, sym, subst, vec_len, ◌∙◌}
+use Rattle.std.proofs.Common.{◌≡◌, ◌≢◌, ◌+◌, ◌≤◌, [], true, List, ap, arith, length, length-append, reverse, sym, subst, vec_len, ◌∙◌}
 use Rattle.std.proofs.lemmas.Bool.{eqb-false, eqb-true, false≢true}
 use Rattle.std.proofs.lemmas.List.{get_or_default, length-reverse, nil_from_length}
 use Rattle.std.specs.List.{All}

@@ -5,12 +5,12 @@ use Rattle.std.proofs.lemmas.List.{reverse-append}
 use Rattle.write_log.specs.Logs.{is_first}
 use Rattle.write_log.specs.Rooms.{AreTests}
 use Rattle.write_log.specs.declared.entry.Test.{Test}
-use Rattle.write_log.proofs.Tests.{was_first}
+use Rattle.write_log.proofs.Tests.{room_back, still_begun, still_undone, used_back, was_first}
 use Rattle.word_log.specs.declared.memory.StoredMemory.{StoredMemory}
 use Rattle.word_log.specs.Entries.{Fits}
 use Rattle.word_log.specs.Logs.{Around, WordLogState, around, innermost, tests_of}
 use Rattle.word_log.proofs.Shapes.{sizes_same}
-use Rattle.word_log.proofs.Tests.{room_back, second_holds, still_begun, still_undone, tests_switched, used_back}
+use Rattle.word_log.proofs.Tests.{second_holds, tests_switched}
 use Rattle.word_log.proofs.log.WordLog.second_branch.Goals as goal
 
 pub put_all_back-requires-clause-left : goal.put_all_back-requires-clause-left
