@@ -1,6 +1,6 @@
 -- A part that begins far from a vector has no bit of it, so an index may be cut where it is far from 0.
 use Rattle.std.proofs.Common.{◌≡◌, ◌∙◌, ◌⊎◌, ℕ, zero, suc, ◌+◌, ◌-◌, ◌<◌, ◌≤◌, ◌^◌, Bool, true, false, if◌then◌else◌, List, ◌∷◌, length, Option, Some, None, ℤ, pos, negsuc, ◌+ℤ◌, ◌-ℤ◌, ◌≤ℤ◌, min, nat_le, refl, sym, ap, ap₂, subst, arith, inl, inr, ⊎_elim}
-use Rattle.std.proofs.lemmas.Bool.{cases_lt, le-ltb}
+use Rattle.std.proofs.lemmas.Bool.{cases_lt, le-leb, le-ltb, lt-leb}
 use Rattle.std.proofs.lemmas.Int.{ints}
 use Rattle.four_state.specs.declared.bit.Bit.{Bit}
 use Rattle.four_state.specs.declared.bit.Bit.TheVariants.{X, Zero, One}
@@ -116,6 +116,20 @@ near_slide ps r up w (Some z) low long wide =
     ⊎_elim (λ e. ap (λ y. select_option ps (slide_offset r up w (Some y)) w) e)
     (λ f. both_outside ps w _ _ (slide_out r up (length ps) w (near z) low long wide f.1) (slide_out r up (length ps) w z low long wide f.0))
     (near_cases z)
+
+-- in a falling range
+pub falling_up : (r : Range) (w : ℕ) (b : ℤ) → r.low ≤ r.high → slide_offset r true w (Some b) ≡ Some (b -ℤ pos r.low)
+falling_up r w b l =
+    ap (λ t. Some (if t then (if t then b else b +ℤ pos (w - 1)) -ℤ pos r.low else pos r.low -ℤ (if t then b else b +ℤ pos (w - 1)))) (le-leb r.low r.high l)
+
+pub falling_down : (r : Range) (w : ℕ) (b : ℤ) → r.low ≤ r.high → slide_offset r false w (Some b) ≡ Some ((b -ℤ pos (w - 1)) -ℤ pos r.low)
+falling_down r w b l =
+    ap (λ t. Some (if t then (if t then b -ℤ pos (w - 1) else (b -ℤ pos (w - 1)) +ℤ pos (w - 1)) -ℤ pos r.low else pos r.low -ℤ (if t then b -ℤ pos (w - 1) else (b -ℤ pos (w - 1)) +ℤ pos (w - 1)))) (le-leb r.low r.high l)
+
+-- in a rising range, up from the base
+pub rising_up : (r : Range) (w : ℕ) (b : ℤ) → r.high < r.low → slide_offset r true w (Some b) ≡ Some (pos r.low -ℤ (b +ℤ pos (w - 1)))
+rising_up r w b l =
+    ap (λ t. Some (if t then (if t then b else b +ℤ pos (w - 1)) -ℤ pos r.low else pos r.low -ℤ (if t then b else b +ℤ pos (w - 1)))) (lt-leb r.low r.high l)
 
 -- in a rising range, down from the base
 pub rising_down : (r : Range) (w : ℕ) (b : ℤ) → nat_le r.low r.high ≡ false → slide_offset r false w (Some b) ≡ Some (pos r.low -ℤ b)

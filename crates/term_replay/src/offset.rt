@@ -43,12 +43,16 @@ pub(crate) fn slide_offset(range: Range, up: bool, width: u8, base: &Four) -> Op
 {
     let low = i64::from(range.low);
     let others = i64::from(width) - 1;
-    let falling = range.low <= range.high;
-    match near(base) {
-        Some(base) if falling && up => Some(base - low),
-        Some(base) if falling => Some(base - others - low),
-        Some(base) if up => Some(low - (base + others)),
-        Some(base) => Some(low - base),
-        None => None,
+    let base = near(base)?;
+    if range.low <= range.high {
+        if up {
+            Some(base - low)
+        } else {
+            Some(base - others - low)
+        }
+    } else if up {
+        Some(low - (base + others))
+    } else {
+        Some(low - base)
     }
 }
