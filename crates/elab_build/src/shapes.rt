@@ -9,16 +9,10 @@ ghost use Rattle.flat_design.specs.Scope.{binding_of};
 ghost use Rattle.verilog_tree.specs.Tree.{binary_operator, place_of};
 ghost use Rattle.verilog_tree.specs.View.{expr_view};
 
-use elab_const::Shape;
+use elab_const::{Operands, Shape, takes_context};
 use elab_scope::Scope;
 use four_state::{Binary, Unary};
 use verilog_tree::{Expr, ExprForm};
-
-/// What a comparison, a logical operator and a reduction give.
-const ONE_BIT: Shape = Shape {
-    width: 1,
-    signed: false,
-};
 
 /// The width and sign of an expression alone (IEEE 1364-2001, 4.4 and 4.5). The operands of an operator that always gives
 /// one bit are not gone through.
@@ -43,9 +37,10 @@ fn unary_shape(scope: &Scope, op: Unary, a: &Expr) -> Shape
     ensures value { result ≡ of.unary_shape op (spec.shape (binding_of scope.now) (expr_view a.now)) }
     ensures within { IsShape result }
 {
-    match op {
-        Unary::Positive | Unary::Negative | Unary::BitwiseNot => shape_of(scope, a),
-        _ => ONE_BIT,
+    if takes_context(op) {
+        shape_of(scope, a)
+    } else {
+        Shape::one_bit()
     }
 }
 
@@ -56,22 +51,10 @@ fn binary_shape(scope: &Scope, op: Binary, a: &Expr, b: &Expr) -> Shape
     ensures value { result ≡ of.binary_shape op (spec.shape (binding_of scope.now) (expr_view a.now)) (spec.shape (binding_of scope.now) (expr_view b.now)) }
     ensures within { IsShape result }
 {
-    match op {
-        Binary::Multiply
-        | Binary::Divide
-        | Binary::Modulus
-        | Binary::Add
-        | Binary::Subtract
-        | Binary::BitwiseAnd
-        | Binary::BitwiseXor
-        | Binary::BitwiseXnor
-        | Binary::BitwiseNxor
-        | Binary::BitwiseOr => common(shape_of(scope, a), shape_of(scope, b)),
-        Binary::ShiftLeft
-        | Binary::ShiftRight
-        | Binary::ArithmeticShiftLeft
-        | Binary::ArithmeticShiftRight => shape_of(scope, a),
-        _ => ONE_BIT,
+    match Operands::of(op) {
+        Operands::Wide => shape_of(scope, a).common(shape_of(scope, b)),
+        Operands::Shift => shape_of(scope, a),
+        Operands::Logic | Operands::Compared => Shape::one_bit(),
     }
 }
 
@@ -87,25 +70,15 @@ fn measured(scope: &Scope, expr: &Expr) -> Shape
     }
 }
 
-/// The greater width of both, and a sign where both have one.
-fn common(a: Shape, b: Shape) -> Shape
-    ensures value { result ≡ of.common_shape a b }
-    ensures within { IsShape a → IsShape b → IsShape result }
-{
-    Shape {
-        width: a.width.max(b.width),
-        signed: a.signed && b.signed,
-    }
-}
-
 /// The context that an operator gives its operand, by the operand's shape alone and its own context.
 pub(crate) fn operand_shape(scope: &Scope, op: Unary, a: &Expr, context: Shape) -> Shape
     requires sound { IsSound (binding_of scope.now) (expr_view a.now) }
     ensures { result ≡ of.operand_shape op (spec.shape (binding_of scope.now) (expr_view a.now)) context }
 {
-    match op {
-        Unary::Positive | Unary::Negative | Unary::BitwiseNot => context,
-        _ => shape_of(scope, a),
+    if takes_context(op) {
+        context
+    } else {
+        shape_of(scope, a)
     }
 }
 
@@ -122,23 +95,11 @@ pub(crate) fn operand_shapes(
     requires right { IsSound (binding_of scope.now) (expr_view b.now) }
     ensures { result ≡ of.operand_shapes (of.operands_of op) (spec.shape (binding_of scope.now) (expr_view a.now)) (spec.shape (binding_of scope.now) (expr_view b.now)) context }
 {
-    match op {
-        Binary::Multiply
-        | Binary::Divide
-        | Binary::Modulus
-        | Binary::Add
-        | Binary::Subtract
-        | Binary::BitwiseAnd
-        | Binary::BitwiseXor
-        | Binary::BitwiseXnor
-        | Binary::BitwiseNxor
-        | Binary::BitwiseOr => (context, context),
-        Binary::ShiftLeft
-        | Binary::ShiftRight
-        | Binary::ArithmeticShiftLeft
-        | Binary::ArithmeticShiftRight => (context, shape_of(scope, b)),
-        Binary::LogicalAnd | Binary::LogicalOr => (shape_of(scope, a), shape_of(scope, b)),
-        _ => compared_shapes(scope, a, b),
+    match Operands::of(op) {
+        Operands::Wide => (context, context),
+        Operands::Shift => (context, shape_of(scope, b)),
+        Operands::Logic => (shape_of(scope, a), shape_of(scope, b)),
+        Operands::Compared => compared_shapes(scope, a, b),
     }
 }
 
@@ -149,6 +110,6 @@ fn compared_shapes(scope: &Scope, a: &Expr, b: &Expr) -> (Shape, Shape)
     ensures left { result.0 ≡ of.common_shape (spec.shape (binding_of scope.now) (expr_view a.now)) (spec.shape (binding_of scope.now) (expr_view b.now)) }
     ensures right { result.1 ≡ result.0 }
 {
-    let shape = common(shape_of(scope, a), shape_of(scope, b));
+    let shape = shape_of(scope, a).common(shape_of(scope, b));
     (shape, shape)
 }

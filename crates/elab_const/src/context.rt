@@ -5,7 +5,7 @@ ghost use Rattle.elab_const.specs.Meaning.{IsShape, vector_as};
 
 use crate::Shape;
 use crate::fault::Fault;
-use crate::width::is_wide_unary;
+use crate::width::takes_context;
 use four_state::{Four, Unary};
 
 /// A value in a context of this width and sign: extended by that sign, or cut.
@@ -37,7 +37,7 @@ pub(crate) fn around_operand(op: Unary, around: Option<Shape>) -> Option<Shape>
     ensures value { result ≡ of.around_operand op around }
     ensures within { IfSome result IsShape }
 {
-    if is_wide_unary(op) { around } else { None }
+    if takes_context(op) { around } else { None }
 }
 
 /// The context of an operand, with the other operand, if that one has no fault.

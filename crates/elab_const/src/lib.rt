@@ -4,6 +4,7 @@
 //! constant, [`case_shape`] the width and sign by which a case compares, and [`turns`] the values of the variable of
 //! a `for` loop. Each is proved to give exactly what its definition says (`specs/Faults.antt`, `Cases.antt`,
 //! `Loops.antt`), or the first fault in the text. What a name means is in a [`Scope`].
+//! [`Operands`] and [`takes_context`] say which operands have the width and sign of the context.
 #![tactic(auto)]
 
 mod answer;
@@ -30,4 +31,4 @@ pub use entry::Entry;
 pub use fault::{ConstFault, ConstKind};
 pub use scope::Scope;
 pub use turn::Turns;
-pub use width::Shape;
+pub use width::{Operands, Shape, takes_context};

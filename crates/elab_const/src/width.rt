@@ -1,6 +1,7 @@
 ghost use Rattle.std.specs.Prelude.{◌≡◌};
 ghost use Rattle.elab_const.specs.Scope.{IsWidth};
 ghost use Rattle.elab_const.specs.Meaning as of;
+ghost use Rattle.elab_const.specs.Meaning.{IsShape};
 ghost use Rattle.design_model.specs.Shape as operator;
 
 use crate::Entry;
@@ -16,8 +17,8 @@ pub struct Shape {
 }
 
 impl Shape {
-    /// One bit without a sign: of comparisons, reductions, logic and bits.
-    pub(crate) fn one_bit() -> Shape
+    /// One bit without a sign: of comparisons, reductions, logic and bits (IEEE 1364-2001, 4.4 and 4.5).
+    pub fn one_bit() -> Shape
         ensures { result ≡ of.one_bit }
     {
         Shape {
@@ -37,9 +38,11 @@ impl Shape {
         }
     }
 
-    /// The greater width of both, and a sign where both have one.
-    pub(crate) fn common(self, other: Shape) -> Shape
-        ensures { result ≡ of.common_shape self other }
+    /// The greater width of both, and a sign where both have one: of two operands that a context joins
+    /// (IEEE 1364-2001, 4.4 for the width, 4.5 for the sign).
+    pub fn common(self, other: Shape) -> Shape
+        ensures value { result ≡ of.common_shape self other }
+        ensures within { IsShape self → IsShape other → IsShape result }
     {
         Shape {
             width: self.width.max(other.width),
@@ -51,7 +54,7 @@ impl Shape {
     pub(crate) fn unary(self, op: Unary) -> Shape
         ensures { result ≡ of.unary_shape op self }
     {
-        if is_wide_unary(op) {
+        if takes_context(op) {
             self
         } else {
             Shape::one_bit()
@@ -70,29 +73,31 @@ impl Shape {
     }
 }
 
-/// How an operator takes two operands.
+/// How an operator takes two operands (IEEE 1364-2001, 4.4 and 4.5): which of them have the width and sign of the
+/// context, and which are taken in a shape of their own.
 #[derive(Clone, Copy)]
-pub(crate) enum Operands {
-    /// Both in its context.
+pub enum Operands {
+    /// Arithmetic and bitwise operators: both in the context.
     Wide,
-    /// The left one in its context, the right one alone.
+    /// Shifts: the left one in the context, the right one alone.
     Shift,
-    /// Both alone.
+    /// Logical operators: both alone.
     Logic,
-    /// Both in their common shape.
+    /// Comparisons: both in their common shape.
     Compared,
 }
 
-/// Whether the operand has the width and sign of the context.
-pub(crate) fn is_wide_unary(op: Unary) -> bool
+/// Whether an operator takes its operand in the width and sign of the context, as `+`, `-` and `~` do, and not alone, as
+/// reductions and `!` do (IEEE 1364-2001, 4.4 and 4.5).
+pub fn takes_context(op: Unary) -> bool
     ensures { result ≡ operator.is_wide_unary op }
 {
     matches!(op, Unary::Positive | Unary::Negative | Unary::BitwiseNot)
 }
 
 impl Operands {
-    /// How an operator takes two operands.
-    pub(crate) fn of(op: Binary) -> Operands
+    /// How this operator takes its operands.
+    pub fn of(op: Binary) -> Operands
         ensures { result ≡ of.operands_of op }
     {
         match op {

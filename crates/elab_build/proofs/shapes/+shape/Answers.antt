@@ -5,14 +5,14 @@ use Rattle.verilog_tree.specs.View.{expr_view}
 use Rattle.elab_build.proofs.SoundParts.{sound_binary}
 use Rattle.elab_build.proofs.shapes.+shape.Goals as goal
 
-pub binary_shape-shape_of-requires-in-Multiply : goal.binary_shape-shape_of-requires-in-Multiply
-binary_shape-shape_of-requires-in-Multiply t c =
+pub binary_shape-shape_of-requires-in-Wide : goal.binary_shape-shape_of-requires-in-Wide
+binary_shape-shape_of-requires-in-Wide t c =
     (search rules, (sound_binary (binding_of c.args.scope.now) (place_of (expr_view c.args.a.now)) c.args.op (expr_view c.args.a.now) (expr_view c.args.b.now) c.requires.sound).0)
 
-pub binary_shape-shape_of-requires-in-Multiply-2 : goal.binary_shape-shape_of-requires-in-Multiply-2
-binary_shape-shape_of-requires-in-Multiply-2 t c =
+pub binary_shape-shape_of-requires-in-Wide-2 : goal.binary_shape-shape_of-requires-in-Wide-2
+binary_shape-shape_of-requires-in-Wide-2 t c =
     (search rules, (sound_binary (binding_of c.args.scope.now) (place_of (expr_view c.args.a.now)) c.args.op (expr_view c.args.a.now) (expr_view c.args.b.now) c.requires.sound).1)
 
-pub binary_shape-shape_of-requires-in-ShiftLeft : goal.binary_shape-shape_of-requires-in-ShiftLeft
-binary_shape-shape_of-requires-in-ShiftLeft t c =
+pub binary_shape-shape_of-requires-in-Shift : goal.binary_shape-shape_of-requires-in-Shift
+binary_shape-shape_of-requires-in-Shift t c =
     (search rules, (sound_binary (binding_of c.args.scope.now) (place_of (expr_view c.args.a.now)) c.args.op (expr_view c.args.a.now) (expr_view c.args.b.now) c.requires.sound).0)
