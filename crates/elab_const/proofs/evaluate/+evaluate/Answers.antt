@@ -13,7 +13,7 @@ use Rattle.elab_const.proofs.AnswerLemmas.{of_both, of_made, of_made_or, bound_i
 use Rattle.elab_const.proofs.PartLemmas.{next_part_is, part_found, part_failed, width_with, bits_with}
 use Rattle.elab_const.proofs.ContextLemmas.{length_alone}
 use Rattle.elab_const.proofs.ValueLemmas.{fit_answer, fit_sides, unary_is, pair_is, shape_of, value_of}
-use Rattle.verilog_tree.proofs.ExprViews.{bit_view, unary_view, binary_view, choice_view, repeat_view, sign_view, place_is}
+use Rattle.verilog_tree.proofs.ExprViews.{bit_view, part_view, slide_view, unary_view, binary_view, choice_view, concatenation_view, repeat_view, sign_view, place_is}
 use Rattle.elab_const.proofs.evaluate.+evaluate.Goals.{joined_parts-in-Ok, joined_parts-in-Err}
 use Rattle.elab_const.proofs.evaluate.+evaluate.Goals as goal
 
@@ -64,6 +64,24 @@ measure-returns-in-Bit-clause-answer t c =
     let both = of_both (fault_of g a) (fault_of g b) (shape g a) (shape g b) c.measure.result c.measure-in-Bit.result c.both-parts.result left right c.both-parts.ensures in
     let of_is = c.select_shape.ensures.value in
     c.bit_shape.ensures.value ∙ of_made (earlier (fault_of g a) (fault_of g b)) (shape g a, shape g b) (λ x. c.select_shape.result) c.both-parts.result both ∙ rw of_is (sym (ap (shape_answer g) (bit_view c.args.expr.now c.in-Bit.of c.in-Bit.index (sym c.deref.ensures ∙ c.in-Bit.is))))
+
+pub measure-returns-in-Part-clause-answer : goal.measure-returns-in-Part-clause-answer
+measure-returns-in-Part-clause-answer t c =
+    let g = look_up c.args.names.now in
+    c.measure_part.ensures.answer ∙ sym (ap (shape_answer g) (part_view c.args.expr.now c.in-Part.of c.in-Part.high c.in-Part.low c.in-Part.bracket (sym c.deref.ensures ∙ c.in-Part.is)))
+
+pub measure-returns-in-Slide-clause-answer : goal.measure-returns-in-Slide-clause-answer
+measure-returns-in-Slide-clause-answer t c =
+    let g = look_up c.args.names.now in
+    c.measure_slide.ensures.answer ∙ sym (ap (shape_answer g) (slide_view c.args.expr.now c.in-Slide.of c.in-Slide.base c.in-Slide.width _ c.in-Slide.bracket (sym c.deref.ensures ∙ c.in-Slide.is)))
+
+pub measure-returns-in-Concat-clause-answer : goal.measure-returns-in-Concat-clause-answer
+measure-returns-in-Concat-clause-answer t c =
+    let g = look_up c.args.names.now in
+    let p = c.args.expr.now.place in
+    let es = exprs_of (exprs_view c.in-Concat.parts.items) in
+    let width = rw c.deref-in-Concat.ensures.value at c.total_width.ensures in
+    c.total_shape.ensures.value ∙ of_made_or (first_fault g None es) (parts_of g es).width (λ w. size_fault w p) (λ w. shape_as w false) c.total_width.result width ∙ sym (ap (shape_answer g) (concatenation_view c.args.expr.now c.in-Concat.parts (sym c.deref.ensures ∙ c.in-Concat.is)))
 
 pub measure-returns-in-Repeat-clause-answer : goal.measure-returns-in-Repeat-clause-answer
 measure-returns-in-Repeat-clause-answer t c =
@@ -122,6 +140,24 @@ evaluate-returns-in-Bit-clause-answer t c =
     let is = bit_view c.args.expr.now c.in-Bit.of c.in-Bit.index (sym c.deref.ensures ∙ c.in-Bit.is) in
     let unread = subst (λ x. bits_within (shape g x) (X ∷ []) r ≡ within (meaning g x) r) (sym is) refl in
     c.unread.ensures.value ∙ of_made (fault_of g e) (shape g e) (λ s. bits_within s (X ∷ []) r) c.measure.result c.measure.ensures.answer ∙ ap (λ v. unless (fault_of g e) v) unread
+
+pub evaluate-returns-in-Part-clause-answer : goal.evaluate-returns-in-Part-clause-answer
+evaluate-returns-in-Part-clause-answer t c =
+    let g = look_up c.args.names.now in
+    let e = expr_view c.args.expr.now in
+    let r = c.args.around in
+    let is = part_view c.args.expr.now c.in-Part.of c.in-Part.high c.in-Part.low c.in-Part.bracket (sym c.deref.ensures ∙ c.in-Part.is) in
+    let unread = subst (λ x. bits_within (shape g x) (X ∷ []) r ≡ within (meaning g x) r) (sym is) refl in
+    c.unread-in-Part.ensures.value ∙ of_made (fault_of g e) (shape g e) (λ s. bits_within s (X ∷ []) r) c.measure-in-Part.result c.measure-in-Part.ensures.answer ∙ ap (λ v. unless (fault_of g e) v) unread
+
+pub evaluate-returns-in-Slide-clause-answer : goal.evaluate-returns-in-Slide-clause-answer
+evaluate-returns-in-Slide-clause-answer t c =
+    let g = look_up c.args.names.now in
+    let e = expr_view c.args.expr.now in
+    let r = c.args.around in
+    let is = slide_view c.args.expr.now c.in-Slide.of c.in-Slide.base c.in-Slide.width _ c.in-Slide.bracket (sym c.deref.ensures ∙ c.in-Slide.is) in
+    let unread = subst (λ x. bits_within (shape g x) (X ∷ []) r ≡ within (meaning g x) r) (sym is) refl in
+    c.unread-in-Slide.ensures.value ∙ of_made (fault_of g e) (shape g e) (λ s. bits_within s (X ∷ []) r) c.measure-in-Slide.result c.measure-in-Slide.ensures.answer ∙ ap (λ v. unless (fault_of g e) v) unread
 
 pub evaluate-returns-in-Unary-clause-answer : goal.evaluate-returns-in-Unary-clause-answer
 evaluate-returns-in-Unary-clause-answer t c =
