@@ -41,6 +41,16 @@ fails (Ok true) (Err h) k f e = cc
 fails (Ok false) i k f e = absurd cc
 fails (Err h) i k f e = cc
 
+-- where the test fails or no turn begins, and where the step fails
+pub test_fails : (b : Result Bool Fault) (i : Result Vector Fault) (f : Fault) → b ≡ Err f → Err f ≡ on_ok b (some_if i)
+test_fails b i f fails = rw fails refl
+
+pub no_next : (b : Result Bool Fault) (i : Result Vector Fault) → b ≡ Ok false → Ok None ≡ on_ok b (some_if i)
+no_next b i ends = rw ends refl
+
+pub step_fails : (b : Result Bool Fault) (i : Result Vector Fault) (f : Fault) → b ≡ Ok true → i ≡ Err f → Err f ≡ on_ok b (some_if i)
+step_fails b i f begun fails = rw (begun, fails) refl
+
 -- what follows a turn that begins
 pub next_is : (b : Result Bool Fault) (i : Result Vector Fault) (n : Vector) → b ≡ Ok true → i ≡ Ok n → Ok (Some n) ≡ on_ok b (some_if i)
 next_is b i n begun is = rw (begun, is) refl
