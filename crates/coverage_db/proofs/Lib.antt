@@ -4,6 +4,7 @@ pub mod Numbers
 pub mod PathSearch
 pub mod Lacking
 pub mod WordLaws
+pub mod WordPlaces
 pub mod SubjectLaws
 pub mod PointLaws
 pub mod DraftLaws

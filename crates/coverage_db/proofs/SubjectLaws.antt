@@ -138,13 +138,14 @@ subject_words (State name state) = name ∷ state ∷ []
 subject_words (Arc name from to) = name ∷ from ∷ to ∷ []
 subject_words (Word name index write) = name ∷ decimal index ∷ write_text write ∷ []
 
--- what a subject took
-pub record TookSubject (sources : ℕ) (fields : List (List ℕ)) (subject : Subject) (left : List (List ℕ)) : Type 0 where
+-- what a subject with this letter took
+pub record TookSubject (sources l : ℕ) (fields : List (List ℕ)) (subject : Subject) (left : List (List ℕ)) : Type 0 where
+  pub lettered : letter subject ≡ l
   pub fields_are : fields ≡ subject_words subject ++ codes "=" ∷ left
   pub is : IsSubject sources subject
 
-took_same : (sources : ℕ) (fields : List (List ℕ)) (made x : Subject × List (List ℕ)) → ◌≡◌ {A = Option (Subject × List (List ℕ))} (Some made) (Some x) → TookSubject sources fields made.0 made.1 → TookSubject sources fields x.0 x.1
-took_same sources fields made x e t = subst (λ (y : Subject × List (List ℕ)). TookSubject sources fields y.0 y.1) (same_Some made x e) t
+took_same : (sources l : ℕ) (fields : List (List ℕ)) (made x : Subject × List (List ℕ)) → ◌≡◌ {A = Option (Subject × List (List ℕ))} (Some made) (Some x) → TookSubject sources l fields made.0 made.1 → TookSubject sources l fields x.0 x.1
+took_same sources l fields made x e t = subst (λ (y : Subject × List (List ℕ)). TookSubject sources l fields y.0 y.1) (same_Some made x e) t
 
 rise_is : (rise : Bool) → cond rise (codes "01") (codes "10") ≡ rise_text rise
 rise_is true = refl
@@ -154,76 +155,57 @@ write_is : (write : Bool) → cond write (codes "w") (codes "r") ≡ write_text 
 write_is true = refl
 write_is false = refl
 
-pub line_takes : (sources : ℕ) (fields : List (List ℕ)) (x : Subject × List (List ℕ)) → sources < 2 ^ 32 → line_at sources fields ≡ Some x → TookSubject sources fields x.0 x.1
+-- what follows from the value of a step that gave something
+then_some : {A B R : Type 0} (o : Option A) {f : A → Option B} {y : B} → (o >>= f) ≡ Some y → ((x : A) → o ≡ Some x → f x ≡ Some y → R) → R
+then_some None e use_value = absurd cc
+then_some (Some x) e use_value = use_value x refl e
+
+pub line_takes : (sources : ℕ) (fields : List (List ℕ)) (x : Subject × List (List ℕ)) → sources < 2 ^ 32 → line_at sources fields ≡ Some x → TookSubject sources 108 fields x.0 x.1
 unfolding line_at
 line_takes sources fields x few e =
-    let x0 = bind_some (number_at 1 4294967295 fields) (λ number. place_at sources number.1 >>= λ place. field_at place.1 >>= λ field. line_word_of field.0 >>= λ word. equals_at field.1 >>= λ equals. Some (Line number.0 place.0 word, equals.1)) x (e) in
-    let x1 = bind_some (place_at sources x0.0.1) (λ place. field_at place.1 >>= λ field. line_word_of field.0 >>= λ word. equals_at field.1 >>= λ equals. Some (Line x0.0.0 place.0 word, equals.1)) x (x0.2) in
-    let x2 = bind_some (field_at x1.0.1) (λ field. line_word_of field.0 >>= λ word. equals_at field.1 >>= λ equals. Some (Line x0.0.0 x1.0.0 word, equals.1)) x (x1.2) in
-    let x3 = bind_some (line_word_of x2.0.0) (λ word. equals_at x2.0.1 >>= λ equals. Some (Line x0.0.0 x1.0.0 word, equals.1)) x (x2.2) in
-    let x4 = bind_some (equals_at x2.0.1) (λ equals. Some (Line x0.0.0 x1.0.0 x3.0, equals.1)) x (x3.2) in
-    let t0 = number_at_takes 1 4294967295 fields x0.0 (omega arith) x0.1 in
-    let t1 = place_at_takes sources x0.0.1 x1.0 few x1.1 in
-    let t2 = field_takes x1.0.1 x2.0.0 x2.0.1 x2.1 in
-    let t3 = line_word_takes x2.0.0 x3.0 x3.1 in
-    let t4 = equals_takes x2.0.1 x4.0 x4.1 in
-    let fields_are : fields ≡ decimal x0.0.0 ∷ place_text x1.0.0 ∷ line_word_text x3.0 ∷ codes "=" ∷ x4.0.1 = cc (t0.fields_are, t1.fields_are, t2, t3, t4) in
-    took_same sources fields (Line x0.0.0 x1.0.0 x3.0, x4.0.1) x x4.2 (record { fields_are = fields_are; is = ((t0.low, omega (arith, t0.high)), t1.place) })
+    then_some (number_at 1 4294967295 fields) e (λ number h0 r0. then_some (place_at sources number.1) r0 (λ place h1 r1. then_some (field_at place.1) r1 (λ field h2 r2. then_some (line_word_of field.0) r2 (λ word h3 r3. then_some (equals_at field.1) r3 (λ equals h4 r4.
+    let t0 = number_at_takes 1 4294967295 fields number (omega arith) h0 in
+    let t1 = place_at_takes sources number.1 place few h1 in
+    let fields_are : fields ≡ decimal number.0 ∷ place_text place.0 ∷ line_word_text word ∷ codes "=" ∷ equals.1 =
+    cc (t0.fields_are, t1.fields_are, field_takes place.1 field.0 field.1 h2, line_word_takes field.0 word h3, equals_takes field.1 equals h4) in
+    took_same sources 108 fields (Line number.0 place.0 word, equals.1) x r4 (record { lettered = refl; fields_are = fields_are; is = ((t0.low, omega (arith, t0.high)), t1.place) }))))))
 
 four_fields : {f0 f1 f2 f3 f4 f5 : List (List ℕ)} {a b c c' d d' equals : List ℕ} → f0 ≡ a ∷ f1 → f1 ≡ b ∷ f2 → f2 ≡ c' ∷ f3 → c' ≡ c → f3 ≡ d' ∷ f4 → d' ≡ d → f4 ≡ equals ∷ f5 → f0 ≡ a ∷ b ∷ c ∷ d ∷ equals ∷ f5
 four_fields p q r s t u v = cc
 
-pub logic_takes : (sources : ℕ) (fields : List (List ℕ)) (x : Subject × List (List ℕ)) → sources < 2 ^ 32 → logic_at sources fields ≡ Some x → TookSubject sources fields x.0 x.1
+pub logic_takes : (sources : ℕ) (fields : List (List ℕ)) (x : Subject × List (List ℕ)) → sources < 2 ^ 32 → logic_at sources fields ≡ Some x → TookSubject sources 99 fields x.0 x.1
 unfolding logic_at
 logic_takes sources fields x few e =
-    let x0 = bind_some (number_at 1 4294967295 fields) (λ number. place_at sources number.1 >>= λ place. field_at place.1 >>= λ op_field. operator_of op_field.0 >>= λ operator. field_at op_field.1 >>= λ case_field. node_case_of case_field.0 >>= λ case. equals_at case_field.1 >>= λ equals. cond (can_have operator case) (Some (Logic number.0 place.0 operator case, equals.1)) None) x (e) in
-    let x1 = bind_some (place_at sources x0.0.1) (λ place. field_at place.1 >>= λ op_field. operator_of op_field.0 >>= λ operator. field_at op_field.1 >>= λ case_field. node_case_of case_field.0 >>= λ case. equals_at case_field.1 >>= λ equals. cond (can_have operator case) (Some (Logic x0.0.0 place.0 operator case, equals.1)) None) x (x0.2) in
-    let x2 = bind_some (field_at x1.0.1) (λ op_field. operator_of op_field.0 >>= λ operator. field_at op_field.1 >>= λ case_field. node_case_of case_field.0 >>= λ case. equals_at case_field.1 >>= λ equals. cond (can_have operator case) (Some (Logic x0.0.0 x1.0.0 operator case, equals.1)) None) x (x1.2) in
-    let x3 = bind_some (operator_of x2.0.0) (λ operator. field_at x2.0.1 >>= λ case_field. node_case_of case_field.0 >>= λ case. equals_at case_field.1 >>= λ equals. cond (can_have operator case) (Some (Logic x0.0.0 x1.0.0 operator case, equals.1)) None) x (x2.2) in
-    let x4 = bind_some (field_at x2.0.1) (λ case_field. node_case_of case_field.0 >>= λ case. equals_at case_field.1 >>= λ equals. cond (can_have x3.0 case) (Some (Logic x0.0.0 x1.0.0 x3.0 case, equals.1)) None) x (x3.2) in
-    let x5 = bind_some (node_case_of x4.0.0) (λ case. equals_at x4.0.1 >>= λ equals. cond (can_have x3.0 case) (Some (Logic x0.0.0 x1.0.0 x3.0 case, equals.1)) None) x (x4.2) in
-    let x6 = bind_some (equals_at x4.0.1) (λ equals. cond (can_have x3.0 x5.0) (Some (Logic x0.0.0 x1.0.0 x3.0 x5.0, equals.1)) None) x (x5.2) in
-    let t0 = number_at_takes 1 4294967295 fields x0.0 (omega arith) x0.1 in
-    let t1 = place_at_takes sources x0.0.1 x1.0 few x1.1 in
-    let t2 = field_takes x1.0.1 x2.0.0 x2.0.1 x2.1 in
-    let t3 = operator_takes x2.0.0 x3.0 x3.1 in
-    let t4 = field_takes x2.0.1 x4.0.0 x4.0.1 x4.1 in
-    let t5 = node_case_takes x4.0.0 x5.0 x5.1 in
-    let t6 = equals_takes x4.0.1 x6.0 x6.1 in
-    let made : Subject × List (List ℕ) = (Logic x0.0.0 x1.0.0 x3.0 x5.0, x6.0.1) in
-    let taken = cond_some (can_have x3.0 x5.0) made x x6.2 in
-    let fields_are : fields ≡ decimal x0.0.0 ∷ place_text x1.0.0 ∷ operator_text x3.0 ∷ node_case_text x5.0 ∷ codes "=" ∷ x6.0.1 = four_fields t0.fields_are t1.fields_are t2 t3 t4 t5 t6 in
-    subst (λ (y : Subject × List (List ℕ)). TookSubject sources fields y.0 y.1) taken.1 (record { fields_are = fields_are; is = ((t0.low, omega (arith, t0.high)), t1.place, taken.0) })
+    then_some (number_at 1 4294967295 fields) e (λ number h0 r0. then_some (place_at sources number.1) r0 (λ place h1 r1. then_some (field_at place.1) r1 (λ op_field h2 r2. then_some (operator_of op_field.0) r2 (λ op h3 r3.
+    then_some (field_at op_field.1) r3 (λ case_field h4 r4. then_some (node_case_of case_field.0) r4 (λ case h5 r5. then_some (equals_at case_field.1) r5 (λ equals h6 r6.
+    let t0 = number_at_takes 1 4294967295 fields number (omega arith) h0 in
+    let t1 = place_at_takes sources number.1 place few h1 in
+    let fields_are : fields ≡ decimal number.0 ∷ place_text place.0 ∷ operator_text op ∷ node_case_text case ∷ codes "=" ∷ equals.1 =
+    four_fields t0.fields_are t1.fields_are (field_takes place.1 op_field.0 op_field.1 h2) (operator_takes op_field.0 op h3)
+    (field_takes op_field.1 case_field.0 case_field.1 h4) (node_case_takes case_field.0 case h5) (equals_takes case_field.1 equals h6) in
+    let taken = cond_some (can_have op case) (Logic number.0 place.0 op case, equals.1) x r6 in
+    took_same sources 99 fields (Logic number.0 place.0 op case, equals.1) x (ap (λ (y : Subject × List (List ℕ)). Some y) taken.1)
+    (record { lettered = refl; fields_are = fields_are; is = ((t0.low, omega (arith, t0.high)), t1.place, taken.0) }))))))))
 
-pub toggle_takes : (sources : ℕ) (fields : List (List ℕ)) (x : Subject × List (List ℕ)) → toggle_at fields ≡ Some x → TookSubject sources fields x.0 x.1
+pub toggle_takes : (sources : ℕ) (fields : List (List ℕ)) (x : Subject × List (List ℕ)) → toggle_at fields ≡ Some x → TookSubject sources 116 fields x.0 x.1
 unfolding toggle_at
 toggle_takes sources fields x e =
-    let x0 = bind_some (tested_at is_identifier fields) (λ name. index_at name.1 >>= λ index. choice_at (codes "01") (codes "10") index.1 >>= λ rise. equals_at rise.1 >>= λ equals. Some (Toggle name.0 index.0 rise.0, equals.1)) x (e) in
-    let x1 = bind_some (index_at x0.0.1) (λ index. choice_at (codes "01") (codes "10") index.1 >>= λ rise. equals_at rise.1 >>= λ equals. Some (Toggle x0.0.0 index.0 rise.0, equals.1)) x (x0.2) in
-    let x2 = bind_some (choice_at (codes "01") (codes "10") x1.0.1) (λ rise. equals_at rise.1 >>= λ equals. Some (Toggle x0.0.0 x1.0.0 rise.0, equals.1)) x (x1.2) in
-    let x3 = bind_some (equals_at x2.0.1) (λ equals. Some (Toggle x0.0.0 x1.0.0 x2.0.0, equals.1)) x (x2.2) in
-    let t0 = tested_takes is_identifier fields x0.0 x0.1 in
-    let t1 = index_takes x0.0.1 x1.0 x1.1 in
-    let t2 = choice_takes (codes "01") (codes "10") x1.0.1 x2.0 x2.1 in
-    let t3 = equals_takes x2.0.1 x3.0 x3.1 in
-    let rise = rise_is x2.0.0 in
-    let fields_are : fields ≡ x0.0.0 ∷ index_text x1.0.0 ∷ rise_text x2.0.0 ∷ codes "=" ∷ x3.0.1 = cc (t0.0, t1.0, t2, t3, rise) in
-    took_same sources fields (Toggle x0.0.0 x1.0.0 x2.0.0, x3.0.1) x x3.2 (record { fields_are = fields_are; is = (t0.1, t1.1) })
+    then_some (tested_at is_identifier fields) e (λ name h0 r0. then_some (index_at name.1) r0 (λ index h1 r1. then_some (choice_at (codes "01") (codes "10") index.1) r1 (λ rise h2 r2. then_some (equals_at rise.1) r2 (λ equals h3 r3.
+    let t0 = tested_takes is_identifier fields name h0 in
+    let t1 = index_takes name.1 index h1 in
+    let fields_are : fields ≡ name.0 ∷ index_text index.0 ∷ rise_text rise.0 ∷ codes "=" ∷ equals.1 =
+    cc (t0.0, t1.0, choice_takes (codes "01") (codes "10") index.1 rise h2, equals_takes rise.1 equals h3, rise_is rise.0) in
+    took_same sources 116 fields (Toggle name.0 index.0 rise.0, equals.1) x r3 (record { lettered = refl; fields_are = fields_are; is = (t0.1, t1.1) })))))
 
-pub word_takes : (sources : ℕ) (fields : List (List ℕ)) (x : Subject × List (List ℕ)) → word_at fields ≡ Some x → TookSubject sources fields x.0 x.1
+pub word_takes : (sources : ℕ) (fields : List (List ℕ)) (x : Subject × List (List ℕ)) → word_at fields ≡ Some x → TookSubject sources 109 fields x.0 x.1
 unfolding word_at
 word_takes sources fields x e =
-    let x0 = bind_some (tested_at is_identifier fields) (λ name. number_at 0 4294967295 name.1 >>= λ index. choice_at (codes "w") (codes "r") index.1 >>= λ write. equals_at write.1 >>= λ equals. Some (Word name.0 index.0 write.0, equals.1)) x (e) in
-    let x1 = bind_some (number_at 0 4294967295 x0.0.1) (λ index. choice_at (codes "w") (codes "r") index.1 >>= λ write. equals_at write.1 >>= λ equals. Some (Word x0.0.0 index.0 write.0, equals.1)) x (x0.2) in
-    let x2 = bind_some (choice_at (codes "w") (codes "r") x1.0.1) (λ write. equals_at write.1 >>= λ equals. Some (Word x0.0.0 x1.0.0 write.0, equals.1)) x (x1.2) in
-    let x3 = bind_some (equals_at x2.0.1) (λ equals. Some (Word x0.0.0 x1.0.0 x2.0.0, equals.1)) x (x2.2) in
-    let t0 = tested_takes is_identifier fields x0.0 x0.1 in
-    let t1 = number_at_takes 0 4294967295 x0.0.1 x1.0 (omega arith) x1.1 in
-    let t2 = choice_takes (codes "w") (codes "r") x1.0.1 x2.0 x2.1 in
-    let t3 = equals_takes x2.0.1 x3.0 x3.1 in
-    let write = write_is x2.0.0 in
-    let fields_are : fields ≡ x0.0.0 ∷ decimal x1.0.0 ∷ write_text x2.0.0 ∷ codes "=" ∷ x3.0.1 = cc (t0.0, t1.fields_are, t2, t3, write) in
-    took_same sources fields (Word x0.0.0 x1.0.0 x2.0.0, x3.0.1) x x3.2 (record { fields_are = fields_are; is = (t0.1, omega (arith, t1.high)) })
+    then_some (tested_at is_identifier fields) e (λ name h0 r0. then_some (number_at 0 4294967295 name.1) r0 (λ index h1 r1. then_some (choice_at (codes "w") (codes "r") index.1) r1 (λ write h2 r2. then_some (equals_at write.1) r2 (λ equals h3 r3.
+    let t0 = tested_takes is_identifier fields name h0 in
+    let t1 = number_at_takes 0 4294967295 name.1 index (omega arith) h1 in
+    let fields_are : fields ≡ name.0 ∷ decimal index.0 ∷ write_text write.0 ∷ codes "=" ∷ equals.1 =
+    cc (t0.0, t1.fields_are, choice_takes (codes "w") (codes "r") index.1 write h2, equals_takes write.1 equals h3, write_is write.0) in
+    took_same sources 109 fields (Word name.0 index.0 write.0, equals.1) x r3 (record { lettered = refl; fields_are = fields_are; is = (t0.1, omega (arith, t1.high)) })))))
 
 not_both : (a b : Bool) → (a && not b) ≡ true → (a ≡ true) × (b ≡ false)
 not_both true true e = absurd cc
@@ -231,39 +213,37 @@ not_both true false e = (refl, refl)
 not_both false b e = absurd cc
 
 arc_takes : (sources : ℕ) (fields : List (List ℕ)) (name from target : List ℕ) (left : List (List ℕ)) (x : Subject × List (List ℕ)) → fields ≡ name ∷ from ∷ target ∷ left → is_identifier name ≡ true → is_state from ≡ true
-    → arc_at name from target left ≡ Some x → TookSubject sources fields x.0 x.1
+    → arc_at name from target left ≡ Some x → TookSubject sources 102 fields x.0 x.1
 unfolding arc_at
 arc_takes sources fields name from target left x whole named state e =
     elim (cases_Bool (is_state target && not (bytes_eq from target))) [
       | inl is ↦
           let parts = not_both (is_state target) (bytes_eq from target) is in
-          let x0 = bind_some (equals_at left) (λ equals. Some (Arc name from target, equals.1)) x (rw is at e) in
-          let t0 = equals_takes left x0.0 x0.1 in
-          let fields_are : fields ≡ name ∷ from ∷ target ∷ codes "=" ∷ x0.0.1 = cc (whole, t0) in
+          let read : (equals_at left >>= λ equals. Some (Arc name from target, equals.1)) ≡ Some x = rw is at e in
+          then_some (equals_at left) read (λ equals h0 r0.
+          let fields_are : fields ≡ name ∷ from ∷ target ∷ codes "=" ∷ equals.1 = cc (whole, equals_takes left equals h0) in
           let differ : from ≢ target = λ same. let bad : true ≡ false = sym (same_path from target same) ∙ parts.1 in cc in
-          took_same sources fields (Arc name from target, x0.0.1) x x0.2 (record { fields_are = fields_are; is = (named, state, parts.0, differ) })
+          took_same sources 102 fields (Arc name from target, equals.1) x r0 (record { lettered = refl; fields_are = fields_are; is = (named, state, parts.0, differ) }))
       | inr other ↦ absurd (let none : ◌≡◌ {A = Option (Subject × List (List ℕ))} None (Some x) = rw other at e in cc)
     ]
 
-pub machine_takes : (sources : ℕ) (fields : List (List ℕ)) (x : Subject × List (List ℕ)) → machine_at fields ≡ Some x → TookSubject sources fields x.0 x.1
+pub machine_takes : (sources : ℕ) (fields : List (List ℕ)) (x : Subject × List (List ℕ)) → machine_at fields ≡ Some x → TookSubject sources 102 fields x.0 x.1
 unfolding machine_at
 machine_takes sources fields x e =
-    let x0 = bind_some (tested_at is_identifier fields) (λ name. tested_at is_state name.1 >>= λ state. field_at state.1 >>= λ next. cond (bytes_eq next.0 (codes "=")) (Some (State name.0 state.0, next.1)) (arc_at name.0 state.0 next.0 next.1)) x (e) in
-    let x1 = bind_some (tested_at is_state x0.0.1) (λ state. field_at state.1 >>= λ next. cond (bytes_eq next.0 (codes "=")) (Some (State x0.0.0 state.0, next.1)) (arc_at x0.0.0 state.0 next.0 next.1)) x (x0.2) in
-    let x2 = bind_some (field_at x1.0.1) (λ next. cond (bytes_eq next.0 (codes "=")) (Some (State x0.0.0 x1.0.0, next.1)) (arc_at x0.0.0 x1.0.0 next.0 next.1)) x (x1.2) in
-    let t0 = tested_takes is_identifier fields x0.0 x0.1 in
-    let t1 = tested_takes is_state x0.0.1 x1.0 x1.1 in
-    let t2 = field_takes x1.0.1 x2.0.0 x2.0.1 x2.1 in
-    elim (cases_Bool (bytes_eq x2.0.0 (codes "="))) [
+    then_some (tested_at is_identifier fields) e (λ name h0 r0. then_some (tested_at is_state name.1) r0 (λ state h1 r1. then_some (field_at state.1) r1 (λ next h2 r2.
+    let t0 = tested_takes is_identifier fields name h0 in
+    let t1 = tested_takes is_state name.1 state h1 in
+    let t2 = field_takes state.1 next.0 next.1 h2 in
+    elim (cases_Bool (bytes_eq next.0 (codes "="))) [
       | inl is ↦
-          let same : ◌≡◌ {A = Option (Subject × List (List ℕ))} (Some (State x0.0.0 x1.0.0, x2.0.1)) (Some x) = rw is at x2.2 in
-          let word : x2.0.0 ≡ codes "=" = (bytes_eq-Decides x2.0.0 (codes "=")).0 is in
-          let fields_are : fields ≡ x0.0.0 ∷ x1.0.0 ∷ codes "=" ∷ x2.0.1 = cc (t0.0, t1.0, t2, word) in
-          took_same sources fields (State x0.0.0 x1.0.0, x2.0.1) x same (record { fields_are = fields_are; is = (t0.1, t1.1) })
+          let same : ◌≡◌ {A = Option (Subject × List (List ℕ))} (Some (State name.0 state.0, next.1)) (Some x) = rw is at r2 in
+          let word : next.0 ≡ codes "=" = (bytes_eq-Decides next.0 (codes "=")).0 is in
+          let fields_are : fields ≡ name.0 ∷ state.0 ∷ codes "=" ∷ next.1 = cc (t0.0, t1.0, t2, word) in
+          took_same sources 102 fields (State name.0 state.0, next.1) x same (record { lettered = refl; fields_are = fields_are; is = (t0.1, t1.1) })
       | inr other ↦
-          let whole : fields ≡ x0.0.0 ∷ x1.0.0 ∷ x2.0.0 ∷ x2.0.1 = cc (t0.0, t1.0, t2) in
-          arc_takes sources fields x0.0.0 x1.0.0 x2.0.0 x2.0.1 x whole t0.1 t1.1 (rw other at x2.2)
-    ]
+          let whole : fields ≡ name.0 ∷ state.0 ∷ next.0 ∷ next.1 = cc (t0.0, t1.0, t2) in
+          arc_takes sources fields name.0 state.0 next.0 next.1 x whole t0.1 t1.1 (rw other at r2)
+    ])))
 
 -- what a letter and a subject took
 pub record TookLettered (sources : ℕ) (word : List ℕ) (fields : List (List ℕ)) (subject : Subject) (left : List (List ℕ)) : Type 0 where
@@ -271,90 +251,22 @@ pub record TookLettered (sources : ℕ) (word : List ℕ) (fields : List (List �
   pub fields_are : fields ≡ subject_words subject ++ codes "=" ∷ left
   pub is : IsSubject sources subject
 
--- reading with each letter gives what has this letter
-abbrev LetterIs : ℕ → Option (Subject × List (List ℕ)) → Type 0
-LetterIs l read = (x : Subject × List (List ℕ)) → read ≡ Some x → letter x.0 ≡ l
-
-line_letter : (sources : ℕ) (fields : List (List ℕ)) → LetterIs 108 (line_at sources fields)
-unfolding line_at
-line_letter sources fields x e =
-    let x0 = bind_some (number_at 1 4294967295 fields) (λ number. place_at sources number.1 >>= λ place. field_at place.1 >>= λ field. line_word_of field.0 >>= λ word. equals_at field.1 >>= λ equals. Some (Line number.0 place.0 word, equals.1)) x (e) in
-    let x1 = bind_some (place_at sources x0.0.1) (λ place. field_at place.1 >>= λ field. line_word_of field.0 >>= λ word. equals_at field.1 >>= λ equals. Some (Line x0.0.0 place.0 word, equals.1)) x (x0.2) in
-    let x2 = bind_some (field_at x1.0.1) (λ field. line_word_of field.0 >>= λ word. equals_at field.1 >>= λ equals. Some (Line x0.0.0 x1.0.0 word, equals.1)) x (x1.2) in
-    let x3 = bind_some (line_word_of x2.0.0) (λ word. equals_at x2.0.1 >>= λ equals. Some (Line x0.0.0 x1.0.0 word, equals.1)) x (x2.2) in
-    let x4 = bind_some (equals_at x2.0.1) (λ equals. Some (Line x0.0.0 x1.0.0 x3.0, equals.1)) x (x3.2) in
-    ap (λ (y : Subject × List (List ℕ)). letter y.0) (sym (same_Some (Line x0.0.0 x1.0.0 x3.0, x4.0.1) x x4.2))
-
-logic_letter : (sources : ℕ) (fields : List (List ℕ)) → LetterIs 99 (logic_at sources fields)
-unfolding logic_at
-logic_letter sources fields x e =
-    let x0 = bind_some (number_at 1 4294967295 fields) (λ number. place_at sources number.1 >>= λ place. field_at place.1 >>= λ op_field. operator_of op_field.0 >>= λ operator. field_at op_field.1 >>= λ case_field. node_case_of case_field.0 >>= λ case. equals_at case_field.1 >>= λ equals. cond (can_have operator case) (Some (Logic number.0 place.0 operator case, equals.1)) None) x (e) in
-    let x1 = bind_some (place_at sources x0.0.1) (λ place. field_at place.1 >>= λ op_field. operator_of op_field.0 >>= λ operator. field_at op_field.1 >>= λ case_field. node_case_of case_field.0 >>= λ case. equals_at case_field.1 >>= λ equals. cond (can_have operator case) (Some (Logic x0.0.0 place.0 operator case, equals.1)) None) x (x0.2) in
-    let x2 = bind_some (field_at x1.0.1) (λ op_field. operator_of op_field.0 >>= λ operator. field_at op_field.1 >>= λ case_field. node_case_of case_field.0 >>= λ case. equals_at case_field.1 >>= λ equals. cond (can_have operator case) (Some (Logic x0.0.0 x1.0.0 operator case, equals.1)) None) x (x1.2) in
-    let x3 = bind_some (operator_of x2.0.0) (λ operator. field_at x2.0.1 >>= λ case_field. node_case_of case_field.0 >>= λ case. equals_at case_field.1 >>= λ equals. cond (can_have operator case) (Some (Logic x0.0.0 x1.0.0 operator case, equals.1)) None) x (x2.2) in
-    let x4 = bind_some (field_at x2.0.1) (λ case_field. node_case_of case_field.0 >>= λ case. equals_at case_field.1 >>= λ equals. cond (can_have x3.0 case) (Some (Logic x0.0.0 x1.0.0 x3.0 case, equals.1)) None) x (x3.2) in
-    let x5 = bind_some (node_case_of x4.0.0) (λ case. equals_at x4.0.1 >>= λ equals. cond (can_have x3.0 case) (Some (Logic x0.0.0 x1.0.0 x3.0 case, equals.1)) None) x (x4.2) in
-    let x6 = bind_some (equals_at x4.0.1) (λ equals. cond (can_have x3.0 x5.0) (Some (Logic x0.0.0 x1.0.0 x3.0 x5.0, equals.1)) None) x (x5.2) in
-    let made : Subject × List (List ℕ) = (Logic x0.0.0 x1.0.0 x3.0 x5.0, x6.0.1) in
-    ap (λ (y : Subject × List (List ℕ)). letter y.0) (sym (cond_some (can_have x3.0 x5.0) made x x6.2).1)
-
-toggle_letter : (fields : List (List ℕ)) → LetterIs 116 (toggle_at fields)
-unfolding toggle_at
-toggle_letter fields x e =
-    let x0 = bind_some (tested_at is_identifier fields) (λ name. index_at name.1 >>= λ index. choice_at (codes "01") (codes "10") index.1 >>= λ rise. equals_at rise.1 >>= λ equals. Some (Toggle name.0 index.0 rise.0, equals.1)) x (e) in
-    let x1 = bind_some (index_at x0.0.1) (λ index. choice_at (codes "01") (codes "10") index.1 >>= λ rise. equals_at rise.1 >>= λ equals. Some (Toggle x0.0.0 index.0 rise.0, equals.1)) x (x0.2) in
-    let x2 = bind_some (choice_at (codes "01") (codes "10") x1.0.1) (λ rise. equals_at rise.1 >>= λ equals. Some (Toggle x0.0.0 x1.0.0 rise.0, equals.1)) x (x1.2) in
-    let x3 = bind_some (equals_at x2.0.1) (λ equals. Some (Toggle x0.0.0 x1.0.0 x2.0.0, equals.1)) x (x2.2) in
-    ap (λ (y : Subject × List (List ℕ)). letter y.0) (sym (same_Some (Toggle x0.0.0 x1.0.0 x2.0.0, x3.0.1) x x3.2))
-
-word_letter : (fields : List (List ℕ)) → LetterIs 109 (word_at fields)
-unfolding word_at
-word_letter fields x e =
-    let x0 = bind_some (tested_at is_identifier fields) (λ name. number_at 0 4294967295 name.1 >>= λ index. choice_at (codes "w") (codes "r") index.1 >>= λ write. equals_at write.1 >>= λ equals. Some (Word name.0 index.0 write.0, equals.1)) x (e) in
-    let x1 = bind_some (number_at 0 4294967295 x0.0.1) (λ index. choice_at (codes "w") (codes "r") index.1 >>= λ write. equals_at write.1 >>= λ equals. Some (Word x0.0.0 index.0 write.0, equals.1)) x (x0.2) in
-    let x2 = bind_some (choice_at (codes "w") (codes "r") x1.0.1) (λ write. equals_at write.1 >>= λ equals. Some (Word x0.0.0 x1.0.0 write.0, equals.1)) x (x1.2) in
-    let x3 = bind_some (equals_at x2.0.1) (λ equals. Some (Word x0.0.0 x1.0.0 x2.0.0, equals.1)) x (x2.2) in
-    ap (λ (y : Subject × List (List ℕ)). letter y.0) (sym (same_Some (Word x0.0.0 x1.0.0 x2.0.0, x3.0.1) x x3.2))
-
-arc_letter : (name from target : List ℕ) (left : List (List ℕ)) → LetterIs 102 (arc_at name from target left)
-unfolding arc_at
-arc_letter name from target left x e =
-    elim (cases_Bool (is_state target && not (bytes_eq from target))) [
-      | inl is ↦
-          let x0 = bind_some (equals_at left) (λ equals. Some (Arc name from target, equals.1)) x (rw is at e) in
-          ap (λ (y : Subject × List (List ℕ)). letter y.0) (sym (same_Some (Arc name from target, x0.0.1) x x0.2))
-      | inr other ↦ absurd (let none : ◌≡◌ {A = Option (Subject × List (List ℕ))} None (Some x) = rw other at e in cc)
-    ]
-
-machine_letter : (fields : List (List ℕ)) → LetterIs 102 (machine_at fields)
-unfolding machine_at
-machine_letter fields x e =
-    let x0 = bind_some (tested_at is_identifier fields) (λ name. tested_at is_state name.1 >>= λ state. field_at state.1 >>= λ next. cond (bytes_eq next.0 (codes "=")) (Some (State name.0 state.0, next.1)) (arc_at name.0 state.0 next.0 next.1)) x (e) in
-    let x1 = bind_some (tested_at is_state x0.0.1) (λ state. field_at state.1 >>= λ next. cond (bytes_eq next.0 (codes "=")) (Some (State x0.0.0 state.0, next.1)) (arc_at x0.0.0 state.0 next.0 next.1)) x (x0.2) in
-    let x2 = bind_some (field_at x1.0.1) (λ next. cond (bytes_eq next.0 (codes "=")) (Some (State x0.0.0 x1.0.0, next.1)) (arc_at x0.0.0 x1.0.0 next.0 next.1)) x (x1.2) in
-    elim (cases_Bool (bytes_eq x2.0.0 (codes "="))) [
-      | inl is ↦
-          let same : ◌≡◌ {A = Option (Subject × List (List ℕ))} (Some (State x0.0.0 x1.0.0, x2.0.1)) (Some x) = rw is at x2.2 in
-          ap (λ (y : Subject × List (List ℕ)). letter y.0) (sym (same_Some (State x0.0.0 x1.0.0, x2.0.1) x same))
-      | inr other ↦ arc_letter x0.0.0 x1.0.0 x2.0.0 x2.0.1 x (rw other at x2.2)
-    ]
-
-lettered : (sources : ℕ) (word : List ℕ) (l : ℕ) (fields : List (List ℕ)) (x : Subject × List (List ℕ)) → bytes_eq word (l ∷ []) ≡ true → letter x.0 ≡ l → TookSubject sources fields x.0 x.1 → TookLettered sources word fields x.0 x.1
-lettered sources word l fields x same is t = record { word_is = (bytes_eq-Decides word (l ∷ [])).0 same ∙ ap (λ n. n ∷ []) (sym is); fields_are = t.fields_are; is = t.is }
+lettered : (sources : ℕ) (word : List ℕ) (l : ℕ) (fields : List (List ℕ)) (x : Subject × List (List ℕ)) → bytes_eq word (l ∷ []) ≡ true → TookSubject sources l fields x.0 x.1 → TookLettered sources word fields x.0 x.1
+lettered sources word l fields x same t = record { word_is = (bytes_eq-Decides word (l ∷ [])).0 same ∙ ap (λ n. n ∷ []) (sym t.lettered); fields_are = t.fields_are; is = t.is }
 
 pub subject_takes : (sources : ℕ) (word : List ℕ) (fields : List (List ℕ)) (x : Subject × List (List ℕ)) → sources < 2 ^ 32 → subject_at sources word fields ≡ Some x → TookLettered sources word fields x.0 x.1
 unfolding subject_at
 subject_takes sources word fields x few e =
     elim (cases_Bool (bytes_eq word (codes "l"))) [
-      | inl l ↦ let r = rw l at e in lettered sources word 108 fields x l (line_letter sources fields x r) (line_takes sources fields x few r)
+      | inl l ↦ lettered sources word 108 fields x l (line_takes sources fields x few (rw l at e))
       | inr no_l ↦ elim (cases_Bool (bytes_eq word (codes "c"))) [
-        | inl c ↦ let r = rw (no_l, c) at e in lettered sources word 99 fields x c (logic_letter sources fields x r) (logic_takes sources fields x few r)
+        | inl c ↦ lettered sources word 99 fields x c (logic_takes sources fields x few (rw (no_l, c) at e))
         | inr no_c ↦ elim (cases_Bool (bytes_eq word (codes "t"))) [
-          | inl t ↦ let r = rw (no_l, no_c, t) at e in lettered sources word 116 fields x t (toggle_letter fields x r) (toggle_takes sources fields x r)
+          | inl t ↦ lettered sources word 116 fields x t (toggle_takes sources fields x (rw (no_l, no_c, t) at e))
           | inr no_t ↦ elim (cases_Bool (bytes_eq word (codes "f"))) [
-            | inl f ↦ let r = rw (no_l, no_c, no_t, f) at e in lettered sources word 102 fields x f (machine_letter fields x r) (machine_takes sources fields x r)
+            | inl f ↦ lettered sources word 102 fields x f (machine_takes sources fields x (rw (no_l, no_c, no_t, f) at e))
             | inr no_f ↦ elim (cases_Bool (bytes_eq word (codes "m"))) [
-              | inl m ↦ let r = rw (no_l, no_c, no_t, no_f, m) at e in lettered sources word 109 fields x m (word_letter fields x r) (word_takes sources fields x r)
+              | inl m ↦ lettered sources word 109 fields x m (word_takes sources fields x (rw (no_l, no_c, no_t, no_f, m) at e))
               | inr no_m ↦ absurd (let none : ◌≡◌ {A = Option (Subject × List (List ℕ))} None (Some x) = rw (no_l, no_c, no_t, no_f, no_m) at e in cc)
             ]
           ]

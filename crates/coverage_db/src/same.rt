@@ -27,7 +27,7 @@ impl Subject {
                     at: place,
                     word: kind,
                 },
-            ) => number == count && at == place && word == kind,
+            ) => *number == *count && *at == *place && *word == *kind,
             (
                 Subject::Logic {
                     number,
@@ -41,8 +41,8 @@ impl Subject {
                     operator: written,
                     case: truths,
                 },
-            ) => number == count
-                && at == place
+            ) => *number == *count
+                && *at == *place
                 && is_same_case(*operator, *case, *written, *truths),
             (
                 Subject::Toggle { name, index, rise },
@@ -51,7 +51,7 @@ impl Subject {
                     index: place,
                     rise: rises,
                 },
-            ) => is_same_name(name, called) && index == place && rise == rises,
+            ) => is_same_name(name, called) && *index == *place && *rise == *rises,
             (
                 Subject::Word { name, index, write },
                 Subject::Word {
@@ -59,7 +59,7 @@ impl Subject {
                     index: place,
                     write: writes,
                 },
-            ) => is_same_name(name, called) && index == place && write == writes,
+            ) => is_same_name(name, called) && *index == *place && *write == *writes,
             _ => self.is_same_machine(other),
         }
     }

@@ -32,7 +32,6 @@ pub(crate) fn join_windows(
 }
 
 /// The first window of two lists, and what is left of each without it.
-#[tactic(auto, using(crate::proofs::WindowLaws::step_none, crate::proofs::WindowLaws::step_left, crate::proofs::WindowLaws::step_right, crate::proofs::WindowLaws::step_less, crate::proofs::WindowLaws::step_equal, crate::proofs::WindowLaws::step_greater))]
 fn take_first<'a>(
     left: &'a [Window],
     right: &'a [Window],

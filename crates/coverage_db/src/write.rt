@@ -1,9 +1,13 @@
 ghost use Rattle.std.specs.Prelude.{◌≡◌, ℕ, ◌+◌, ◌∷◌, [], ◌++◌, ◌<◌, length, map, decimal, codes, OnOk, IfOk};
 ghost use Rattle.coverage_db.specs.Table.{IsTable};
+ghost use Rattle.coverage_db.specs.declared.address.Subject.TheVariants.{Line, Logic, Toggle, State, Arc, Word};
 ghost use Rattle.coverage_db.specs.declared.version.Version.TheVariants.{Two};
 ghost use Rattle.coverage_db.specs.Text.{text_of, text_of_lines, head_lines, window_line, window_count_line, top_line, source_lines, source_line, instance_line, count_line, point_line, address_text, subject_fields, letter, place_text, index_text, verdict_text, ended, path_at};
 
-use crate::{Address, Db, DbInstance, DbPoint, DbVerdict, SourceLine, Subject, Window};
+use crate::{
+    Address, Db, DbInstance, DbPoint, DbVerdict, LineWord, NodeCase, Operator, SourceLine, Subject,
+    Window,
+};
 use cov_host::{Name, NoMemory, Sequence, Text};
 use itoa::{Buffer, Integer};
 use std::alloc::Global;
@@ -163,42 +167,78 @@ pub fn push_subject(text: &mut Text, subject: &Subject) -> Result<(), NoMemory>
     ensures { OnOk result (text.new ≡ text.old ++ subject_fields subject.now) }
 {
     match subject {
-        Subject::Line { number, at, word } => {
-            push_number(text, *number)?;
-            push_place(text, *at)?;
-            push_field(text, word.text().as_bytes())
-        }
+        Subject::Line { number, at, word } => push_line(text, *number, *at, *word),
         Subject::Logic {
             number,
             at,
             operator,
             case,
-        } => {
-            push_number(text, *number)?;
-            push_place(text, *at)?;
-            push_field(text, operator.text().as_bytes())?;
-            push_field(text, case.text().as_bytes())
-        }
-        Subject::Toggle { name, index, rise } => {
-            text.extend_from_slice(name.as_slice())?;
-            push_index(text, *index)?;
-            push_field(text, if *rise { b"01" } else { b"10" })
-        }
-        Subject::State { name, state } => {
-            text.extend_from_slice(name.as_slice())?;
-            push_field(text, state.as_slice())
-        }
-        Subject::Arc { name, from, to } => {
-            text.extend_from_slice(name.as_slice())?;
-            push_field(text, from.as_slice())?;
-            push_field(text, to.as_slice())
-        }
-        Subject::Word { name, index, write } => {
-            text.extend_from_slice(name.as_slice())?;
-            push_index(text, Some(*index))?;
-            push_field(text, if *write { b"w" } else { b"r" })
-        }
+        } => push_logic(text, *number, *at, *operator, *case),
+        Subject::Toggle { name, index, rise } => push_toggle(text, name, *index, *rise),
+        Subject::State { name, state } => push_state(text, name, state),
+        Subject::Arc { name, from, to } => push_arc(text, name, from, to),
+        Subject::Word { name, index, write } => push_word(text, name, *index, *write),
     }
+}
+
+/// Appends the fields of a statement.
+fn push_line(text: &mut Text, number: u32, at: SourceLine, word: LineWord) -> Result<(), NoMemory>
+    ensures { OnOk result (text.new ≡ text.old ++ subject_fields (Line number at word)) }
+{
+    push_number(text, number)?;
+    push_place(text, at)?;
+    push_field(text, word.text().as_bytes())
+}
+
+/// Appends the fields of a node.
+fn push_logic(
+    text: &mut Text,
+    number: u32,
+    at: SourceLine,
+    operator: Operator,
+    case: NodeCase,
+) -> Result<(), NoMemory>
+    ensures { OnOk result (text.new ≡ text.old ++ subject_fields (Logic number at operator case)) }
+{
+    push_number(text, number)?;
+    push_place(text, at)?;
+    push_field(text, operator.text().as_bytes())?;
+    push_field(text, case.text().as_bytes())
+}
+
+/// Appends the fields of a change of a bit.
+fn push_toggle(text: &mut Text, name: &Name, index: Option<u32>, rise: bool) -> Result<(), NoMemory>
+    ensures { OnOk result (text.new ≡ text.old ++ subject_fields (Toggle name.now index rise)) }
+{
+    text.extend_from_slice(name.as_slice())?;
+    push_index(text, index)?;
+    push_field(text, if rise { b"01" } else { b"10" })
+}
+
+/// Appends the fields of a state.
+fn push_state(text: &mut Text, name: &Name, state: &Name) -> Result<(), NoMemory>
+    ensures { OnOk result (text.new ≡ text.old ++ subject_fields (State name.now state.now)) }
+{
+    text.extend_from_slice(name.as_slice())?;
+    push_field(text, state.as_slice())
+}
+
+/// Appends the fields of an arc.
+fn push_arc(text: &mut Text, name: &Name, from: &Name, to: &Name) -> Result<(), NoMemory>
+    ensures { OnOk result (text.new ≡ text.old ++ subject_fields (Arc name.now from.now to.now)) }
+{
+    text.extend_from_slice(name.as_slice())?;
+    push_field(text, from.as_slice())?;
+    push_field(text, to.as_slice())
+}
+
+/// Appends the fields of a word of a memory.
+fn push_word(text: &mut Text, name: &Name, index: u32, write: bool) -> Result<(), NoMemory>
+    ensures { OnOk result (text.new ≡ text.old ++ subject_fields (Word name.now index write)) }
+{
+    text.extend_from_slice(name.as_slice())?;
+    push_index(text, Some(index))?;
+    push_field(text, if write { b"w" } else { b"r" })
 }
 
 /// Appends the text of a verdict.
