@@ -2,7 +2,6 @@ ghost use Rattle.std.specs.Prelude.{◌≡◌};
 ghost use Rattle.std.specs.List.{flat_map};
 ghost use Rattle.command_line.specs.UsageFault.{usage_text};
 
-
 /// Why words are no command: their first fault from the left, with the word that it is about.
 #[derive(Clone, Copy)]
 pub enum UsageFault<'a> {

@@ -1,9 +1,9 @@
 //! The commands over files in memory.
 use crate::words::{merge_of, report_of, words_of};
 use cov_host::{Calls, NoMemory, Words};
-use memory_hosts::MemoryHost;
 use coverage_db::DbKind;
 use database_commands::{CommandFault, run_merge, run_report};
+use memory_hosts::MemoryHost;
 use std::alloc::Global;
 
 /// A table of a register.

@@ -2,10 +2,10 @@
 use crate::words::words_of;
 use command_line::{Command, read_command};
 use cov_host::{Calls, NoMemory, Words};
-use memory_hosts::MemoryHost;
 use coverage_db::DbKind;
 use database_commands::{CommandFault, run_exclude, run_report, run_restore};
 use db_tools::ToolFault;
+use memory_hosts::MemoryHost;
 use std::alloc::Global;
 
 /// A table of a register.

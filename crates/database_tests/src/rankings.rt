@@ -1,9 +1,9 @@
 //! Rankings of files in memory, and what is reported where there is no ranking.
 use crate::words::{rank_of, words_of};
 use cov_host::{Calls, NoMemory, Words};
-use memory_hosts::MemoryHost;
 use coverage_db::DbKind;
 use database_commands::{CommandFault, run_rank};
+use memory_hosts::MemoryHost;
 use std::alloc::Global;
 use whole_files::Call;
 

@@ -1,7 +1,6 @@
 ghost use Rattle.std.specs.Prelude.{◌≡◌};
 ghost use Rattle.db_tools.specs.FaultText.{refusal_text};
 
-
 /// Why a point was not excluded, or was not restored.
 #[derive(Clone, Copy, PartialEq, Eq)]
 pub enum ToolFault {
