@@ -6,17 +6,17 @@ use Rattle.wake_tables.specs.declared.tables.WakeTables.{WakeTables}
 use Rattle.early_sets.specs.declared.edges.Edges.{Edges}
 use Rattle.early_sets.specs.declared.sets.Sets.{Sets}
 
--- a set of numbers below a size has no members
+-- the set takes numbers below the size, and has no members
 pub record IsEmpty (set : Members) (size : ℕ) : Type 0 where
   pub size_is : set.size ≡ size
   pub items_are : set.items ≡ []
 
--- so have two of one size
+-- both sets take numbers below the size, and have no members
 pub record AreTwoEmpty (sets : Members × Members) (size : ℕ) : Type 0 where
   pub first_is : IsEmpty sets.0 size
   pub second_is : IsEmpty sets.1 size
 
--- what a step finds is empty before the first step, for so many things and processes
+-- nothing has been found before the first step, in a design of so many things and processes
 pub record AreNew (sets : Sets) (things processes : ℕ) : Type 0 where
   pub noted_is : IsEmpty sets.noted things
   pub ready_is : IsEmpty sets.ready things

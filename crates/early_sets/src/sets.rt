@@ -7,7 +7,7 @@ use cov_host::NoMemory;
 use index_sets::IndexSet;
 use std::alloc::Global;
 
-/// What a step finds, as [`crate::Wakes`] has it.
+/// What is found in a step: the sets of [`crate::Wakes`], and the round of each signal and memory.
 pub(crate) struct Sets {
     pub(crate) noted: IndexSet,
     pub(crate) ready: IndexSet,
