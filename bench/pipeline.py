@@ -180,7 +180,7 @@ def verilator_seconds(design, clocks):
 
 
 def times(seconds, other):
-    """How many times the seconds of another program these are, where that took more than can be told from none."""
+    """How many times the seconds of another program these are, where that took long enough to be measured."""
     return f"{seconds / other:.2f} times" if other and other > 0.005 else "not compared with"
 
 
