@@ -4,7 +4,6 @@ pub mod Numbers
 pub mod PathSearch
 pub mod Lacking
 pub mod WordLaws
-pub mod WordPlaces
 pub mod SubjectLaws
 pub mod PointLaws
 pub mod DraftLaws
