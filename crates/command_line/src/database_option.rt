@@ -6,7 +6,7 @@ use crate::report_level::ReportLevel;
 use crate::report_metrics::is_letters;
 
 /// An option of the commands that read databases.
-#[derive(Clone, Copy)]
+#[derive(Clone, Copy, PartialEq, Eq)]
 pub enum DatabaseOption {
     /// How much a report shows.
     Level,
