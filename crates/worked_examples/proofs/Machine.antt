@@ -1,3 +1,3 @@
-mod Points
-mod Marked
-mod Followed
+pub mod Points
+pub mod Marked
+pub mod Followed

@@ -1,3 +1,3 @@
-mod Followed
-mod Noted
-mod Compared
+pub mod Followed
+pub mod Noted
+pub mod Compared
